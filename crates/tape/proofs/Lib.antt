@@ -1,0 +1,5 @@
+pub mod Standing
+pub mod Walking
+pub mod Recorded
+pub mod Answers
+mod Parts

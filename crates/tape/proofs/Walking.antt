@@ -1,0 +1,74 @@
+-- The laws of the walk. How many records it may take does not matter, as long as it reaches the tape's end.
+use Prim.Native.Nat.{ℕ, zero, suc, _+_, _-_, _<_}
+use mathlib.Core.Path.{_≡_, refl, sym, ap, _∙_}
+use mathlib.Core.List.{List}
+use native.Mathlib.Omega.{arith}
+use native.Mathlib.Numerals.{add-one}
+use native.Mathlib.Nat.{not-suc-le-zero}
+use lib.ListN.{length}
+use Rattle.tape.specs.declared.found.Found.{Found}
+use Rattle.tape.specs.declared.found.Found.the-variants.{Block, Mark, Stop}
+use Rattle.tape.specs.declared.found.Why.the-variants.{Bad}
+use Rattle.tape.specs.Record.{foundAt}
+use Rattle.tape.specs.declared.found.Why.{Why}
+use Rattle.tape.specs.declared.pass.Passed.the-variants.{Past, Stopped}
+use Rattle.tape.specs.Walk.{block, mark, stop, walk, trail, startOf, pastMarks, recordsPast}
+use Rattle.tape.specs.Laws.{off-tape, TrailBlock, TrailMark, TrailStop, TrailStart}
+use Rattle.tape.proofs.Standing.{case-found}
+
+walk-off : (t : List ℕ) (n h : ℕ) → length t < h → walk t n h ≡ stop h Bad
+unfolding walk
+walk-off t zero h l = refl
+walk-off t (suc n) h l = rw (case-found t h (Stop Bad) (off-tape l), walk)
+
+walk-more : (t : List ℕ) (n m h : ℕ) → length t < n + h → length t < m + h → walk t n h ≡ walk t m h
+unfolding walk
+walk-more t zero m h a b = sym (walk-off t m h (omega arith))
+walk-more t (suc n) zero h a b = walk-off t (suc n) h (omega arith)
+walk-more t (suc n) (suc m) h a b = go (foundAt t h) refl (λ k p q. walk-more t n m k p q)
+  where
+    go : (f : Found) → foundAt t h ≡ f → ((k : ℕ) → length t < n + k → length t < m + k → walk t n k ≡ walk t m k) → walk t (suc n) h ≡ walk t (suc m) h
+    go Block e ih = rw (e, walk) (ap (block h) (ih (h + 513) (omega arith) (omega arith)))
+    go Mark e ih = rw (e, walk) (ap (mark h) (ih (h + 1) (omega arith) (omega arith)))
+    go (Stop w) e ih = rw (e, walk)
+
+pub trail-block : TrailBlock
+unfolding trail walk
+trail-block t h e = rw (e, walk) (ap (block h) (walk-more t (length t) (suc (length t)) (h + 513) (omega arith) (omega arith)))
+
+pub trail-mark : TrailMark
+unfolding trail walk
+trail-mark t h e = rw (e, walk) (ap (mark h) (walk-more t (length t) (suc (length t)) (h + 1) (omega arith) (omega arith)))
+
+pub trail-stop : TrailStop
+unfolding trail walk
+trail-stop t h w e = rw (e, walk)
+
+pub trail-start : TrailStart
+trail-start t h = go (foundAt t h) refl
+  where
+    go : (f : Found) → foundAt t h ≡ f → startOf (trail t h) ≡ h
+    go Block e = rw (trail-block t h e)
+    go Mark e = rw (trail-mark t h e)
+    go (Stop w) e = rw (trail-stop t h w e)
+
+-- The way past n marks, where some are left to pass: over a block, over a mark, and at its end.
+module _ (t : List ℕ) (h : ℕ) where
+  pub way-block : (n : ℕ) → 0 < n → foundAt t h ≡ Block
+      → (pastMarks n (trail t h) ≡ pastMarks n (trail t (h + 513))) × (recordsPast n (trail t h) ≡ recordsPast n (trail t (h + 513)) + 1)
+  way-block zero l e = absurd (not-suc-le-zero l)
+  way-block (suc n) l e = (ap (pastMarks (suc n)) (trail-block t h e), ap (recordsPast (suc n)) (trail-block t h e) ∙ rw add-one)
+
+  pub way-mark : (n : ℕ) → 0 < n → foundAt t h ≡ Mark
+      → (pastMarks n (trail t h) ≡ pastMarks (n - 1) (trail t (h + 1))) × (recordsPast n (trail t h) ≡ recordsPast (n - 1) (trail t (h + 1)) + 1)
+  way-mark zero l e = absurd (not-suc-le-zero l)
+  way-mark (suc n) l e =
+      let q : suc n - 1 ≡ n = omega arith in
+      (ap (pastMarks (suc n)) (trail-mark t h e) ∙ rw q, ap (recordsPast (suc n)) (trail-mark t h e) ∙ rw (q, add-one (recordsPast n (trail t (h + 1)))))
+
+  pub way-stop : (n : ℕ) → 0 < n → (w : Why) → foundAt t h ≡ Stop w → (pastMarks n (trail t h) ≡ Stopped h w) × (recordsPast n (trail t h) ≡ 0)
+  way-stop zero l w e = absurd (not-suc-le-zero l)
+  way-stop (suc n) l w e = (ap (pastMarks (suc n)) (trail-stop t h w e), ap (recordsPast (suc n)) (trail-stop t h w e))
+
+  pub way-none : pastMarks 0 (trail t h) ≡ Past h
+  way-none = ap Past (trail-start t h)

@@ -1,0 +1,23 @@
+use Rattle.tape.proofs.Parts.{mark-put}
+use lib.ListN.{length-set}
+use mathlib.Core.Path.{_∙_}
+use native.Mathlib.Omega.{arith}
+use borrow.Author.Needs.{needs}
+use Rattle.tape.proofs.record.put_mark.Statement.{statement}
+use Rattle.tape.proofs.record.put_mark.Tie as tie
+use Rattle.tape.proofs.record.end_at.Reads as end-at-reads
+
+slice-write-part : tie.Need-slice-write-part
+slice-write-part c = search needs
+
+end-at-requires : tie.Need-end-at-requires
+end-at-requires c κs = search needs
+
+same-length : tie.Need-same-length
+same-length c = omega (arith, c .before .before .end-at .kept .0, length-set (c .before .before .before .before .before .args .part .now) 0 2)
+
+returns : tie.Need-returns
+returns c = c .before .before .end-at .ensures ∙ mark-put (c .before .before .before .before .before .args .part .now) (c .before .before .before .before .before .pre)
+
+pub put-mark-spec : {M : Type 1} → statement M
+put-mark-spec = tie.close (tie.spec slice-write-part end-at-requires same-length returns)

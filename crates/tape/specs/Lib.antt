@@ -1,0 +1,6 @@
+pub mod Choice
+pub mod Record
+pub mod Recording
+pub mod Walk
+pub mod Laws
+pub mod Outcomes
