@@ -1,0 +1,92 @@
+-- Bytes given by the host and bytes taken by it.
+use Prim.Native.Nat.{ℕ, _+_, _-_}
+use mathlib.Core.Bool.{Bool, true, false}
+use mathlib.Core.List.{List}
+use lib.ListN.{length, getD, set}
+use lib.Dec.{ltb, leb}
+use Rattle.tape.specs.Choice.{pick}
+use Rattle.tape.specs.Record.{foundAt, blockSize, blockRecord}
+use Rattle.tape.specs.Recording.{recorded}
+use Rattle.rules.specs.declared.drive.Drive.{Drive}
+use Rattle.rules.specs.declared.drive.Bit.the-variants.{Eom, Ude}
+use Rattle.rules.specs.declared.unit.Port.{Port}
+use Rattle.rules.specs.declared.unit.Phase.{Phase}
+use Rattle.rules.specs.declared.unit.Phase.the-variants.{Rest, Taking, Giving, Status}
+use Rattle.rules.specs.declared.order.Checked.{Checked}
+use Rattle.rules.specs.Drive.{stopping, made, passedTo}
+use Rattle.rules.specs.Unit.{atPhase}
+use Rattle.rules.specs.Order.{writeRoom}
+use Rattle.rules.specs.Edge.{isBlock, checked}
+use Rattle.rules.specs.Effect.{Seat, Acted, leaves, hands, resting}
+
+-- How many bytes of a block were given before.
+abbrev pub givenBefore : Phase → ℕ
+givenBefore Rest = 0
+givenBefore (Taking n) = n
+givenBefore (Giving n) = 0
+givenBefore (Status k) = 0
+
+-- A byte is staged at place n, counted from 0, where n of the block were given before. The last place is 511.
+abbrev pub placeOf : ℕ → ℕ
+placeOf n = pick (ltb n 511) n 511
+
+unfoldable pub stagedByte : ℕ → ℕ → List ℕ → List ℕ
+stagedByte n b g = set g (placeOf n) b
+
+-- Room for a block at a drive's head, with what is kept past early warning.
+abbrev pub roomToWrite : Drive → List ℕ → Bool
+roomToWrite d t = leb (d .head + writeRoom) (length t)
+
+-- After recording, if head + 1541 > L, EOM.
+unfoldable pub afterBlock : Port → Drive → List ℕ → Acted
+afterBlock p d t = pick (roomToWrite d t) (leaves false p d t) (leaves true p (stopping Eom d) t)
+
+-- The 512th: the block g is stored as one part that starts at the head. Without room EOM, and nothing is recorded.
+unfoldable pub stored : List ℕ → Port → Drive → List ℕ → Acted
+stored g p d t =
+    pick (roomToWrite d t)
+    (afterBlock p (made (d .head + blockSize) d) (recorded t (d .head) (blockRecord g)))
+    (leaves true p (stopping Eom d) t)
+
+-- A byte given where n were given before, and g is the staging block with the byte in it. No tape byte changes before the 512th.
+abbrev pub gave : List ℕ → Seat → ℕ → Acted
+gave g s n =
+    pick (ltb n 511)
+    (leaves false (atPhase (Taking (n + 1)) (s .port)) (s .drive) (s .tape))
+    (stored g (resting s) (s .drive) (s .tape))
+
+-- Byte n + 1 of the block at the head is the tape's own at head + 1 + n; the head stays until byte 512.
+-- After byte 512: head past the block, Rest, edge check.
+abbrev pub lastHanded : Seat → Checked → Acted
+lastHanded s c = hands (c .raised) (getD (s .tape) (s .drive .head + 512) 0) (resting s) (c .drive) (s .tape)
+
+unfoldable pub handed : Seat → ℕ → Acted
+handed s n =
+    pick (ltb n 511)
+    (hands false (getD (s .tape) (s .drive .head + 1 + n) 0) (atPhase (Giving (n + 1)) (s .port)) (s .drive) (s .tape))
+    (lastHanded s (checked (s .tape) (passedTo (s .drive .head + blockSize) (s .drive))))
+
+-- At Rest the edge check is repeated first.
+abbrev pub firstTaken : Seat → Checked → Acted
+firstTaken s c = pick (c .raised) (leaves true (resting s) (c .drive) (s .tape)) (handed s 0)
+
+-- Inside a block UDE, phase Rest, Idle, if the record at the head is no longer a whole block.
+abbrev pub nextTaken : Seat → ℕ → Bool → Acted
+nextTaken s n whole = pick whole (handed s n) (leaves true (resting s) (stopping Ude (s .drive)) (s .tape))
+
+-- The place of the next octet where k are outstanding, and the phase after it.
+abbrev pub octetPlace : ℕ → ℕ
+octetPlace k = pick (leb k 1) 5 (pick (leb k 6) (6 - k) 0)
+
+abbrev pub afterOctet : ℕ → Phase
+afterOctet k = pick (leb k 1) Rest (Status (k - 1))
+
+-- In Status the next octet; after the sixth, Rest.
+unfoldable pub octetTaken : Seat → ℕ → Acted
+octetTaken s k = hands false (getD (s .port .octets) (octetPlace k) 0) (atPhase (afterOctet k) (s .port)) (s .drive) (s .tape)
+
+abbrev pub took : Seat → Phase → Acted
+took s Rest = firstTaken s (checked (s .tape) (s .drive))
+took s (Taking n) = leaves false (s .port) (s .drive) (s .tape)
+took s (Giving n) = nextTaken s n (isBlock (foundAt (s .tape) (s .drive .head)))
+took s (Status k) = octetTaken s k

@@ -1,0 +1,129 @@
+-- State: one drive's record, and its moves.
+use Prim.Native.Nat.{ℕ, _+_}
+use mathlib.Core.Bool.{Bool, true, false, not, _&&_}
+use lib.Dec.{ltb}
+use Rattle.tape.specs.Choice.{pick}
+use Rattle.rules.specs.declared.drive.Drive.{Drive}
+use Rattle.rules.specs.declared.drive.Latched.{Latched}
+use Rattle.rules.specs.declared.drive.Errors.{Errors}
+use Rattle.rules.specs.declared.drive.Underruns.{Underruns}
+use Rattle.rules.specs.declared.drive.Mode.{Mode}
+use Rattle.rules.specs.declared.drive.Mode.the-variants.{Idle, Writing, Reading}
+use Rattle.rules.specs.declared.drive.Bit.{Bit}
+use Rattle.rules.specs.declared.drive.Bit.the-variants.{Cni, Eom, Ude, Fil, Ill, Ndt, Por}
+
+abbrev pub isIdle : Mode → Bool
+isIdle Idle = true
+isIdle Writing = false
+isIdle Reading = false
+
+abbrev pub isWriting : Mode → Bool
+isWriting Idle = false
+isWriting Writing = true
+isWriting Reading = false
+
+abbrev pub isReading : Mode → Bool
+isReading Idle = false
+isReading Writing = false
+isReading Reading = true
+
+-- No bit latched, and one more.
+abbrev pub noBits : Latched
+noBits = record { cni = false; eom = false; ude = false; fil = false; ill = false; ndt = false; por = false }
+
+abbrev pub withBit : Bit → Latched → Latched
+withBit Cni l = record { cni = true; eom = l .eom; ude = l .ude; fil = l .fil; ill = l .ill; ndt = l .ndt; por = l .por }
+withBit Eom l = record { cni = l .cni; eom = true; ude = l .ude; fil = l .fil; ill = l .ill; ndt = l .ndt; por = l .por }
+withBit Ude l = record { cni = l .cni; eom = l .eom; ude = true; fil = l .fil; ill = l .ill; ndt = l .ndt; por = l .por }
+withBit Fil l = record { cni = l .cni; eom = l .eom; ude = l .ude; fil = true; ill = l .ill; ndt = l .ndt; por = l .por }
+withBit Ill l = record { cni = l .cni; eom = l .eom; ude = l .ude; fil = l .fil; ill = true; ndt = l .ndt; por = l .por }
+withBit Ndt l = record { cni = l .cni; eom = l .eom; ude = l .ude; fil = l .fil; ill = l .ill; ndt = true; por = l .por }
+withBit Por l = record { cni = l .cni; eom = l .eom; ude = l .ude; fil = l .fil; ill = l .ill; ndt = l .ndt; por = true }
+
+-- The parts of the record, each set by itself: what a move does not name stays.
+abbrev pub setCartridge : Bool → Bool → Drive → Drive
+setCartridge l p d = record { loaded = l; protected = p; head = d .head; mode = d .mode; exception = d .exception; latched = d .latched; errors = d .errors; underruns = d .underruns }
+
+abbrev pub setHead : ℕ → Drive → Drive
+setHead h d = record { loaded = d .loaded; protected = d .protected; head = h; mode = d .mode; exception = d .exception; latched = d .latched; errors = d .errors; underruns = d .underruns }
+
+abbrev pub inMode : Mode → Drive → Drive
+inMode m d = record { loaded = d .loaded; protected = d .protected; head = d .head; mode = m; exception = d .exception; latched = d .latched; errors = d .errors; underruns = d .underruns }
+
+abbrev pub setReport : Bool → Latched → Drive → Drive
+setReport e l d = record { loaded = d .loaded; protected = d .protected; head = d .head; mode = d .mode; exception = e; latched = l; errors = d .errors; underruns = d .underruns }
+
+abbrev pub setCounts : Errors → Underruns → Drive → Drive
+setCounts e n d = record { loaded = d .loaded; protected = d .protected; head = d .head; mode = d .mode; exception = d .exception; latched = d .latched; errors = e; underruns = n }
+
+abbrev pub noErrors : Errors
+noErrors = record { 0 = 0 }
+
+abbrev pub noUnderruns : Underruns
+noUnderruns = record { 0 = 0 }
+
+-- Fresh: no cartridge or plug, head 0, Idle, counters 0, POR latched and EXCEPTION up.
+abbrev pub freshDrive : Drive
+freshDrive = record { loaded = false; protected = false; head = 0; mode = Idle; exception = true; latched = withBit Por noBits; errors = noErrors; underruns = noUnderruns }
+
+-- RESET: as fresh; cartridge and plug stay.
+abbrev pub wasReset : Drive → Drive
+wasReset d = setCartridge (d .loaded) (d .protected) freshDrive
+
+abbrev pub rewound : Drive → Drive
+rewound d = setHead 0 d
+
+-- SELECT leaves the record as it is.
+abbrev pub chosen : Drive → Drive
+chosen d = d
+
+-- EXCEPTION alone.
+abbrev pub raised : Drive → Drive
+raised d = setReport true (d .latched) d
+
+-- A bit latched, with EXCEPTION up.
+abbrev pub latching : Bit → Drive → Drive
+latching b d = setReport true (withBit b (d .latched)) d
+
+-- A bit latched by a rule that makes the mode Idle.
+abbrev pub stopping : Bit → Drive → Drive
+stopping b d = latching b (inMode Idle d)
+
+-- Record made: the head past it. Records passed: the head where passing ended.
+abbrev pub made : ℕ → Drive → Drive
+made next d = setHead next d
+
+abbrev pub passedTo : ℕ → Drive → Drive
+passedTo at d = setHead at d
+
+-- READ STATUS clears the latched bits, both counters and EXCEPTION.
+abbrev pub cleared : Drive → Drive
+cleared d = setCounts noErrors noUnderruns (setReport false noBits d)
+
+-- Cartridge in: loaded, plug as given, head 0.
+abbrev pub loadedWith : Bool → Drive → Drive
+loadedWith plug d = rewound (setCartridge true plug d)
+
+-- Cartridge out: not loaded, not protected, head 0, Idle, CNI latched, EXCEPTION.
+abbrev pub pulled : Drive → Drive
+pulled d = rewound (setCartridge false false (stopping Cni d))
+
+-- A count: one more, up to 65,535 and no further.
+abbrev pub highest : ℕ
+highest = 65535
+
+unfoldable pub counted : ℕ → ℕ
+counted n = pick (ltb n highest) (n + 1) n
+
+abbrev pub errorCounted : Drive → Drive
+errorCounted d = setCounts (record { 0 = counted (d .errors .0) }) (d .underruns) d
+
+abbrev pub underrunCounted : Drive → Drive
+underrunCounted d = setCounts (d .errors) (record { 0 = counted (d .underruns .0) }) d
+
+-- Writing, or Reading, without EXCEPTION.
+abbrev pub writes : Drive → Bool
+writes d = isWriting (d .mode) && not (d .exception)
+
+abbrev pub reads : Drive → Bool
+reads d = isReading (d .mode) && not (d .exception)

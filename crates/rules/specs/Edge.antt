@@ -1,0 +1,44 @@
+-- The edge check, and passing records.
+use Prim.Native.Nat.{ℕ, _+_}
+use mathlib.Core.Bool.{Bool, true, false, not}
+use mathlib.Core.List.{List}
+use Rattle.tape.specs.declared.found.Found.{Found}
+use Rattle.tape.specs.declared.found.Found.the-variants.{Block, Mark, Stop}
+use Rattle.tape.specs.declared.found.Why.{Why}
+use Rattle.tape.specs.declared.found.Why.the-variants.{End, Unknown, Bad}
+use Rattle.tape.specs.declared.pass.Passed.{Passed}
+use Rattle.tape.specs.declared.pass.Passed.the-variants.{Past, Stopped}
+use Rattle.tape.specs.Record.{foundAt, markSize}
+use Rattle.rules.specs.declared.drive.Drive.{Drive}
+use Rattle.rules.specs.declared.drive.Bit.the-variants.{Ude, Fil, Ndt}
+use Rattle.rules.specs.declared.order.Checked.{Checked}
+use Rattle.rules.specs.Drive.{stopping, passedTo}
+
+abbrev pub isBlock : Found → Bool
+isBlock Block = true
+isBlock Mark = false
+isBlock (Stop w) = false
+
+-- End of data, NDT; a bad record, UDE. The mode becomes Idle.
+abbrev pub halted : Why → Drive → Drive
+halted End d = stopping Ndt d
+halted Unknown d = stopping Ude d
+halted Bad d = stopping Ude d
+
+-- A block, nothing; a mark, FIL and the head moves past it; else as above.
+abbrev pub edged : Found → Drive → Drive
+edged Block d = d
+edged Mark d = stopping Fil (passedTo (d .head + markSize) d)
+edged (Stop w) d = halted w d
+
+abbrev pub checkedBy : Found → Drive → Checked
+checkedBy f d = record { raised = not (isBlock f); drive = edged f d }
+
+-- The edge check looks at what stands at the head.
+unfoldable pub checked : List ℕ → Drive → Checked
+checked t d = checkedBy (foundAt t (d .head)) d
+
+-- READ FILE MARK: past the next mark FIL; at end of data NDT, head there; at a bad record UDE, head there; mode Idle each time.
+abbrev pub searched : Passed → Drive → Drive
+searched (Past at) d = stopping Fil (passedTo at d)
+searched (Stopped at w) d = halted w (passedTo at d)

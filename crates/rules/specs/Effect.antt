@@ -1,0 +1,82 @@
+-- Effects of the orders, on what the selected drive sees and on nothing else.
+use Prim.Native.Nat.{ℕ, _+_}
+use mathlib.Core.Bool.{Bool, true, false}
+use mathlib.Core.List.{List}
+use lib.ListN.{length}
+use Rattle.tape.specs.Record.{markSize, markRecord}
+use Rattle.tape.specs.Recording.{recorded, erased}
+use Rattle.tape.specs.Walk.{passed}
+use Rattle.rules.specs.declared.drive.Drive.{Drive}
+use Rattle.rules.specs.declared.drive.Mode.the-variants.{Idle, Writing, Reading}
+use Rattle.rules.specs.declared.drive.Bit.the-variants.{Cni, Eom, Ill}
+use Rattle.rules.specs.declared.unit.Port.{Port}
+use Rattle.rules.specs.declared.unit.Phase.the-variants.{Rest}
+use Rattle.rules.specs.declared.unit.Moved.{Moved}
+use Rattle.rules.specs.declared.order.Order.{Order}
+use Rattle.rules.specs.declared.order.Order.the-variants.{NoOrder, Select, Bot, Erase, Initialize, Write, WriteMark, Read, ReadMark, ReadStatus}
+use Rattle.rules.specs.declared.order.Fault.{Fault}
+use Rattle.rules.specs.declared.order.Fault.the-variants.{Fine, Illegal, Empty, Plugged, Full}
+use Rattle.rules.specs.declared.order.Checked.{Checked}
+use Rattle.rules.specs.Drive.{rewound, chosen, raised, latching, stopping, inMode, made, cleared}
+use Rattle.rules.specs.Unit.{atPhase, atDrive, showing}
+use Rattle.rules.specs.Order.{needsOf, faultBy}
+use Rattle.rules.specs.Edge.{checked, searched}
+use Rattle.rules.specs.Octets.{octetsOf}
+
+-- What the selected drive sees: the port, its own record, its own tape.
+pub record Seat : Type 0 where
+  pub port : Port
+  pub drive : Drive
+  pub tape : List ℕ
+
+abbrev pub seat : Port → Drive → List ℕ → Seat
+seat p d t = record { port = p; drive = d; tape = t }
+
+-- What an act leaves: of port and record, with its answer to the host, and of the tape.
+pub record Acted : Type 0 where
+  pub moved : Moved
+  pub tape : List ℕ
+
+abbrev pub acted : Moved → List ℕ → Acted
+acted m t = record { moved = m; tape = t }
+
+-- Without a byte, and with one; `r` says that a rule raised EXCEPTION.
+abbrev pub leaves : Bool → Port → Drive → List ℕ → Acted
+leaves r p d t = acted (record { raised = r; given = false; byte = 0; port = p; drive = d }) t
+
+abbrev pub hands : Bool → ℕ → Port → Drive → List ℕ → Acted
+hands r b p d t = acted (record { raised = r; given = true; byte = b; port = p; drive = d }) t
+
+-- A command is taken at Rest, so Rest is the phase that stays.
+abbrev pub resting : Seat → Port
+resting s = atPhase Rest (s .port)
+
+-- An order that passed the tests.
+-- SELECT changes the selected drive only. BOT and INITIALIZATION set the head to 0. ERASE sets every byte of the tape to 0, head 0.
+-- WRITE and READ set the mode; READ then makes the edge check. WRITE FILE MARK records a mark; mode Idle. READ FILE MARK passes blocks.
+-- READ STATUS makes the six octets, then clears the latched bits, both counters and EXCEPTION; phase Status with 6 outstanding; mode stays.
+abbrev pub ordered : Seat → Order → Acted
+ordered s NoOrder = leaves false (resting s) (s .drive) (s .tape)
+ordered s (Select n) = leaves false (atDrive n (s .port)) (chosen (s .drive)) (s .tape)
+ordered s Bot = leaves false (resting s) (rewound (s .drive)) (s .tape)
+ordered s Erase = leaves false (resting s) (rewound (s .drive)) (erased (s .tape))
+ordered s Initialize = leaves false (resting s) (rewound (s .drive)) (s .tape)
+ordered s Write = leaves false (resting s) (inMode Writing (s .drive)) (s .tape)
+ordered s WriteMark =
+    leaves false (resting s) (inMode Idle (made (s .drive .head + markSize) (s .drive))) (recorded (s .tape) (s .drive .head) markRecord)
+ordered s Read =
+    leaves (checked (s .tape) (inMode Reading (s .drive)) .raised) (resting s) (checked (s .tape) (inMode Reading (s .drive)) .drive) (s .tape)
+ordered s ReadMark = leaves true (resting s) (searched (passed (s .tape) (s .drive .head)) (s .drive)) (s .tape)
+ordered s ReadStatus = leaves false (showing (octetsOf (s .drive)) (s .port)) (cleared (s .drive)) (s .tape)
+
+-- The test that fits an order in a seat.
+unfoldable pub faultOf : Seat → Order → Fault
+faultOf s o = faultBy (s .port .online) (s .drive) (length (s .tape)) (needsOf o)
+
+-- 1 to 4 latch ILL, 5 CNI, 6 raises EXCEPTION alone, 7 latches EOM and makes the mode Idle. All leave head and tape.
+abbrev pub commanded : Seat → Order → Fault → Acted
+commanded s o Fine = ordered s o
+commanded s o Illegal = leaves true (resting s) (latching Ill (s .drive)) (s .tape)
+commanded s o Empty = leaves true (resting s) (latching Cni (s .drive)) (s .tape)
+commanded s o Plugged = leaves true (resting s) (raised (s .drive)) (s .tape)
+commanded s o Full = leaves true (resting s) (stopping Eom (s .drive)) (s .tape)

@@ -1,0 +1,16 @@
+pub mod Drive
+pub mod Unit
+pub mod Event
+pub mod Answer
+pub mod Refusal
+pub mod Lines
+pub mod Order
+pub mod Edge
+pub mod Octets
+pub mod Effect
+pub mod Bytes
+pub mod Online
+pub mod Slot
+pub mod Step
+pub mod Run
+pub mod Tests

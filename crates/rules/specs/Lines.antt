@@ -1,0 +1,32 @@
+-- Lines: EXCEPTION is that of the selected drive; READY: no EXCEPTION, and Rest or Status; DIRECTION: Status, or the selected drive Reading without EXCEPTION.
+use mathlib.Core.Bool.{Bool, true, false, not, _&&_, _||_}
+use Rattle.rules.specs.declared.unit.Phase.{Phase}
+use Rattle.rules.specs.declared.unit.Phase.the-variants.{Rest, Taking, Giving, Status}
+use Rattle.rules.specs.declared.unit.Core.{Core}
+use Rattle.rules.specs.declared.drive.Drive.{Drive}
+use Rattle.rules.specs.declared.answer.Lines.{Lines}
+use Rattle.rules.specs.Drive.{reads}
+use Rattle.rules.specs.Unit.{driveAt}
+
+abbrev pub restOrStatus : Phase → Bool
+restOrStatus Rest = true
+restOrStatus (Taking n) = false
+restOrStatus (Giving n) = false
+restOrStatus (Status k) = true
+
+abbrev pub isStatus : Phase → Bool
+isStatus Rest = false
+isStatus (Taking n) = false
+isStatus (Giving n) = false
+isStatus (Status k) = true
+
+abbrev pub linesAt : Phase → Drive → Lines
+linesAt ph d =
+    record { ready = not (d .exception) && restOrStatus ph; exception = d .exception; direction = isStatus ph || reads d }
+
+unfoldable pub linesOf : Core → Lines
+linesOf c = linesAt (c .port .phase) (driveAt c (c .port .selected))
+
+-- After answer 5.
+abbrev pub linesDown : Lines
+linesDown = record { ready = false; exception = false; direction = false }

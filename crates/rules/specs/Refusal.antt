@@ -1,0 +1,109 @@
+-- Answers in the order they are tried: 5, 6, 4, 2, 3.
+use Prim.Native.Nat.{ℕ}
+use mathlib.Core.Bool.{Bool, true, false, not, _&&_, _||_}
+use mathlib.Core.List.{List}
+use lib.ListN.{length}
+use lib.Dec.{leb}
+use Rattle.tape.specs.Choice.{pick}
+use Rattle.rules.specs.declared.drive.Drive.{Drive}
+use Rattle.rules.specs.declared.drive.Mode.{Mode}
+use Rattle.rules.specs.declared.drive.Mode.the-variants.{Idle, Writing, Reading}
+use Rattle.rules.specs.declared.unit.Phase.{Phase}
+use Rattle.rules.specs.declared.unit.Phase.the-variants.{Rest, Taking, Giving, Status}
+use Rattle.rules.specs.declared.unit.Core.{Core}
+use Rattle.rules.specs.declared.event.Act.{Act}
+use Rattle.rules.specs.declared.event.Act.the-variants.{Command, Give, Take, Online, Offline}
+use Rattle.rules.specs.declared.event.What.{What}
+use Rattle.rules.specs.declared.event.What.the-variants.{In, Out, Error, Underrun}
+use Rattle.rules.specs.declared.event.Event.{Event}
+use Rattle.rules.specs.declared.event.Event.the-variants.{NoEvent, Reset, Named, Own}
+use Rattle.rules.specs.declared.answer.Answer.{Answer}
+use Rattle.rules.specs.declared.answer.Answer.the-variants.{Taken, Raised, OutOfStep, WrongSlot, Malformed, Impossible, TooLong}
+use Rattle.rules.specs.Drive.{isWriting, isReading, writes, reads}
+use Rattle.rules.specs.Unit.{Lent, driveAt}
+
+-- The longest tape, and the furthest head.
+abbrev pub longest : ℕ
+longest = 16777216
+
+-- 5. What a mode asks of the cartridge: a drive protected or not Idle with no cartridge, or Writing with a protected one, is impossible.
+abbrev pub modeFits : Mode → Bool → Bool → Bool
+modeFits Idle loaded protected = loaded || not protected
+modeFits Writing loaded protected = loaded && not protected
+modeFits Reading loaded protected = loaded
+
+-- A head above 16,777,216 is impossible.
+unfoldable pub possibleDrive : Drive → Bool
+possibleDrive d = leb (d .head) longest && modeFits (d .mode) (d .loaded) (d .protected)
+
+-- A place in a block is 1 to 511, octets outstanding are 1 to 6; a part block given needs the selected drive Writing, taken needs it Reading.
+unfoldable pub possiblePhase : Phase → Mode → Bool
+possiblePhase Rest m = true
+possiblePhase (Taking n) m = leb 1 n && (leb n 511 && isWriting m)
+possiblePhase (Giving n) m = leb 1 n && (leb n 511 && isReading m)
+possiblePhase (Status k) m = leb 1 k && leb k 6
+
+-- A selected drive above 3 is impossible.
+unfoldable pub possible : Core → Bool
+possible c =
+    leb (c .port .selected) 3
+    && (possiblePhase (c .port .phase) (driveAt c (c .port .selected) .mode)
+    && (possibleDrive (c .drive0) && (possibleDrive (c .drive1) && (possibleDrive (c .drive2) && possibleDrive (c .drive3)))))
+
+-- 6. No lent tape is longer than 16,777,216, loaded or not.
+unfoldable pub short : Lent → Bool
+short l =
+    leb (length (l .tape0)) longest
+    && (leb (length (l .tape1)) longest && (leb (length (l .tape2)) longest && leb (length (l .tape3)) longest))
+
+-- 2. Out of step: events 01, 04, 05 outside Rest.
+abbrev pub atRest : Phase → Bool
+atRest Rest = true
+atRest (Taking n) = false
+atRest (Giving n) = false
+atRest (Status k) = false
+
+-- 02 unless the selected drive is Writing without EXCEPTION and the phase is Rest or Taking.
+abbrev pub takes : Phase → Bool → Bool
+takes Rest writing = writing
+takes (Taking n) writing = writing
+takes (Giving n) writing = false
+takes (Status k) writing = false
+
+-- 03 unless Status, or Giving, or Rest with the drive Reading without EXCEPTION.
+abbrev pub gives : Phase → Bool → Bool
+gives Rest reading = reading
+gives (Taking n) reading = false
+gives (Giving n) reading = true
+gives (Status k) reading = true
+
+abbrev pub inStep : Phase → Bool → Bool → Act → Bool
+inStep ph writing reading (Command c) = atRest ph
+inStep ph writing reading (Give b) = takes ph writing
+inStep ph writing reading Take = gives ph reading
+inStep ph writing reading Online = atRest ph
+inStep ph writing reading Offline = atRest ph
+
+abbrev pub inStepAt : Phase → Drive → Act → Bool
+inStepAt ph d a = inStep ph (writes d) (reads d) a
+
+-- 3. Cartridge in where one is; out, or a count, where none is.
+abbrev pub slotFits : Bool → What → Bool
+slotFits loaded (In p) = not loaded
+slotFits loaded Out = loaded
+slotFits loaded Error = loaded
+slotFits loaded Underrun = loaded
+
+-- What refuses an event in a possible record with short tapes; `Taken` where nothing does.
+abbrev pub refusalIn : Core → Event → Answer
+refusalIn c NoEvent = Malformed
+refusalIn c Reset = Taken
+refusalIn c (Named i w) = pick (slotFits (driveAt c i .loaded) w) Taken WrongSlot
+refusalIn c (Own a) = pick (inStepAt (c .port .phase) (driveAt c (c .port .selected)) a) Taken OutOfStep
+
+-- 5 before 6, and 6 before the others.
+abbrev pub refusalBy : Bool → Bool → Answer → Answer
+refusalBy ok near a = pick ok (pick near a TooLong) Impossible
+
+unfoldable pub refusalOf : Core → Lent → Event → Answer
+refusalOf c l e = refusalBy (possible c) (short l) (refusalIn c e)

@@ -1,0 +1,21 @@
+-- A run: events one after the other, each record and tape handed back as the last event left it.
+use Prim.Native.Nat.{ℕ}
+use mathlib.Core.List.{List, [], _∷_}
+use Rattle.rules.specs.declared.unit.Core.{Core}
+use Rattle.rules.specs.Unit.{Lent}
+use Rattle.rules.specs.Step.{stepOf}
+
+pub record World : Type 0 where
+  pub core : Core
+  pub lent : Lent
+
+abbrev pub world : Core → Lent → World
+world c l = record { core = c; lent = l }
+
+unfoldable pub after : World → List ℕ → World
+unfolding stepOf
+after w e = world (stepOf (w .core) (w .lent) e .turn .core) (stepOf (w .core) (w .lent) e .lent)
+
+abbrev pub run : World → List (List ℕ) → World
+run w [] = w
+run w (e ∷ es) = run (after w e) es

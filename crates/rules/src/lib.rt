@@ -1,0 +1,76 @@
+// Document 01 as a book: the records of the unit with their moves by value. The rules stand in specs/.
+mod answer;
+mod drive;
+mod event;
+mod order;
+mod unit;
+
+pub use answer::Answer;
+pub use answer::Lines;
+pub use answer::Outcome;
+pub use answer::Turn;
+pub use drive::Bit;
+pub use drive::Drive;
+pub use drive::Errors;
+pub use drive::Latched;
+pub use drive::Mode;
+pub use drive::Underruns;
+pub use event::Act;
+pub use event::Event;
+pub use event::What;
+pub use order::Checked;
+pub use order::Fault;
+pub use order::Needs;
+pub use order::Order;
+pub use unit::Core;
+pub use unit::Moved;
+pub use unit::Phase;
+pub use unit::Port;
+pub use unit::Unit;
+
+// The octets of one report.
+pub const OCTETS: usize = 6;
+
+// The room that WRITE asks for: a block, and 1028 bytes kept past early warning.
+pub const KEPT: usize = 1028;
+
+pub const WRITE_ROOM: usize = tape::BLOCK_SIZE + KEPT;
+
+// The longest tape, the furthest head, and the highest count.
+pub const LONGEST: usize = 16777216;
+
+pub const HIGHEST: u16 = 65535;
+
+// Octet 0, bit 7 down.
+pub const ST0: u8 = 128;
+
+pub const CNI: u8 = 64;
+
+pub const USL: u8 = 32;
+
+pub const WRP: u8 = 16;
+
+pub const EOM: u8 = 8;
+
+pub const UDE: u8 = 4;
+
+pub const BNL: u8 = 2;
+
+pub const FIL: u8 = 1;
+
+// Octet 1, bit 7 down.
+pub const ST1: u8 = 128;
+
+pub const ILL: u8 = 64;
+
+pub const NDT: u8 = 32;
+
+pub const MBD: u8 = 16;
+
+pub const BOM: u8 = 8;
+
+pub const BPE: u8 = 4;
+
+pub const ERM: u8 = 2;
+
+pub const POR: u8 = 1;
