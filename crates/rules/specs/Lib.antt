@@ -14,3 +14,4 @@ pub mod Slot
 pub mod Step
 pub mod Run
 pub mod Tests
+pub mod Promises

@@ -1,8 +1,9 @@
 -- State: the unit's record, fresh and after RESET; a drive and a tape by their number.
 use Prim.Native.Nat.{ℕ}
+use mathlib.Core.Path.{_≡_}
 use mathlib.Core.Bool.{Bool, true, false}
 use mathlib.Core.List.{List}
-use lib.ListN.{replicate}
+use lib.ListN.{length, replicate}
 use lib.Dec.{leb, eqb}
 use Rattle.tape.specs.Choice.{pick}
 use Rattle.rules.specs.declared.drive.Drive.{Drive}
@@ -23,6 +24,10 @@ pub record Lent : Type 0 where
 
 abbrev pub lent : List ℕ → List ℕ → List ℕ → List ℕ → List ℕ → Lent
 lent g a b c d = record { staging = g; tape0 = a; tape1 = b; tape2 = c; tape3 = d }
+
+-- The staging block has 512 bytes, as its type says.
+abbrev pub Whole : Lent → Type 0
+Whole l = length (l .staging) ≡ 512
 
 -- One of four, by its number; and the k-th of four after x was put at i. A number above 3 means the last.
 unfoldable pub oneOf : {A : Type 0} → ℕ → A → A → A → A → A

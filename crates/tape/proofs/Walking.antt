@@ -1,5 +1,5 @@
 -- The laws of the walk. How many records it may take does not matter, as long as it reaches the tape's end.
-use Prim.Native.Nat.{ℕ, zero, suc, _+_, _-_, _<_}
+use Prim.Native.Nat.{ℕ, zero, suc, _+_, _-_, _≤_, _<_}
 use mathlib.Core.Path.{_≡_, refl, sym, ap, _∙_}
 use mathlib.Core.List.{List}
 use native.Mathlib.Omega.{arith}
@@ -12,9 +12,9 @@ use Rattle.tape.specs.declared.found.Why.the-variants.{Bad}
 use Rattle.tape.specs.Record.{foundAt}
 use Rattle.tape.specs.declared.found.Why.{Why}
 use Rattle.tape.specs.declared.pass.Passed.the-variants.{Past, Stopped}
-use Rattle.tape.specs.Walk.{block, mark, stop, walk, trail, startOf, pastMarks, recordsPast}
-use Rattle.tape.specs.Laws.{off-tape, TrailBlock, TrailMark, TrailStop, TrailStart}
-use Rattle.tape.proofs.Standing.{case-found}
+use Rattle.tape.specs.Walk.{Trail, endOf, block, mark, stop, walk, trail, startOf, pastMarks, recordsPast}
+use Rattle.tape.specs.Laws.{off-tape, TrailBlock, TrailMark, TrailStop, TrailStart, Way, over-block, over-mark, at-stop, TrailWay, PassedWithin}
+use Rattle.tape.proofs.Standing.{case-found, block-fits, mark-fits}
 
 walk-off : (t : List ℕ) (n h : ℕ) → length t < h → walk t n h ≡ stop h Bad
 unfolding walk
@@ -51,6 +51,33 @@ trail-start t h = go (foundAt t h) refl
     go Block e = rw (trail-block t h e)
     go Mark e = rw (trail-mark t h e)
     go (Stop w) e = rw (trail-stop t h w e)
+
+walk-way : (t : List ℕ) (n h : ℕ) → length t < n + h → Way t h (walk t n h)
+unfolding walk
+walk-way t zero h l = at-stop (case-found t h (Stop Bad) (off-tape (omega arith)))
+walk-way t (suc n) h l = go (foundAt t h) refl (λ k p. walk-way t n k p)
+  where
+    go : (f : Found) → foundAt t h ≡ f → ((k : ℕ) → length t < n + k → Way t k (walk t n k)) → Way t h (walk t (suc n) h)
+    go Block e ih = rw (e, walk) (over-block e (ih (h + 513) (omega arith)))
+    go Mark e ih = rw (e, walk) (over-mark e (ih (h + 1) (omega arith)))
+    go (Stop w) e ih = rw (e, walk) (at-stop e)
+
+pub trail-way : TrailWay
+unfolding trail
+trail-way t h = walk-way t (suc (length t)) h (omega arith)
+
+way-within : (t : List ℕ) (h b : ℕ) {r : Trail} → Way t h r → length t ≤ b → h ≤ b → endOf (pastMarks 1 r) ≤ b
+way-within t h b (over-block e w) l p = way-within t (h + 513) b w l (omega (arith, block-fits t h e))
+way-within t h b (over-mark e w) l p = rw (way-start t (h + 1) w) (omega (arith, mark-fits t h e))
+  where
+    way-start : (t : List ℕ) (k : ℕ) {r : Trail} → Way t k r → startOf r ≡ k
+    way-start t k (over-block e w) = refl
+    way-start t k (over-mark e w) = refl
+    way-start t k (at-stop e) = refl
+way-within t h b (at-stop e) l p = p
+
+pub passed-within : PassedWithin
+passed-within t h b l p = way-within t h b (trail-way t h) l p
 
 -- The way past n marks, where some are left to pass: over a block, over a mark, and at its end.
 module _ (t : List ℕ) (h : ℕ) where

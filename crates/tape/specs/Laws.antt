@@ -11,7 +11,7 @@ use Rattle.tape.specs.declared.record.Made.{Made}
 use Rattle.tape.specs.declared.record.Made.the-variants.{Next, NoRoom}
 use Rattle.tape.specs.Record.{endKind, blockKind, markKind, blockSize, markSize, markRecord, blockRecord, foundAt}
 use Rattle.tape.specs.Recording.{recorded, written, writtenAt}
-use Rattle.tape.specs.Walk.{Trail, block, mark, stop, trail, startOf}
+use Rattle.tape.specs.Walk.{Trail, block, mark, stop, trail, startOf, passed, endOf}
 
 -- What stands at an offset, case by case, with the bytes that make each case.
 pub data Stands (t : List ℕ) (h : ℕ) : Found → Type 0 where
@@ -74,6 +74,19 @@ TrailStop = (t : List ℕ) (h : ℕ) (w : Why) → foundAt t h ≡ Stop w → tr
 -- A walk starts where it is asked to.
 abbrev pub TrailStart : Type 0
 TrailStart = (t : List ℕ) (h : ℕ) → startOf (trail t h) ≡ h
+
+-- The walk as a relation: what each offset on the way holds. Whoever goes by cases over a walk goes by these.
+pub data Way (t : List ℕ) : ℕ → Trail → Type 0 where
+  over-block : {h : ℕ} {r : Trail} → foundAt t h ≡ Block → Way t (h + blockSize) r → Way t h (block h r)
+  over-mark : {h : ℕ} {r : Trail} → foundAt t h ≡ Mark → Way t (h + markSize) r → Way t h (mark h r)
+  at-stop : {h : ℕ} {w : Why} → foundAt t h ≡ Stop w → Way t h (stop h w)
+
+abbrev pub TrailWay : Type 0
+TrailWay = (t : List ℕ) (h : ℕ) → Way t h (trail t h)
+
+-- Passing ends on the tape, or where it began.
+abbrev pub PassedWithin : Type 0
+PassedWithin = (t : List ℕ) (h b : ℕ) → length t ≤ b → h ≤ b → endOf (passed t h) ≤ b
 
 -- What an answer says: `Next` that the record has room, where it ends and that the tape has it; `NoRoom` that it has none and the tape is as found.
 pub record WasMade (t : List ℕ) (h n spare : ℕ) (rec : List ℕ) (next : ℕ) (t′ : List ℕ) : Type 0 where

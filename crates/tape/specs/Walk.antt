@@ -51,6 +51,11 @@ recordsPast (suc n) (stop h w) = 0
 abbrev pub passed : List ℕ → ℕ → Passed
 passed t h = pastMarks 1 (trail t h)
 
+-- The offset where passing ended.
+abbrev pub endOf : Passed → ℕ
+endOf (Past at) = at
+endOf (Stopped at w) = at
+
 -- What a way past n marks from offset h hands back: where it ended, and how many records it passed.
 pub record Passes (t : List ℕ) (h n : ℕ) (end : Passed) (records : ℕ) : Type 0 where
   pub ends : end ≡ pastMarks n (trail t h)

@@ -1,0 +1,182 @@
+-- Every leaf of an act leaves a possible record, a tape of the same length, and a protected tape as it was.
+use Prim.Native.Nat.{ℕ, _+_, _-_, _≤_, zero-le}
+use mathlib.Core.Path.{_≡_, refl, sym, ap, _∙_}
+use mathlib.Core.Bool.{Bool, true, false, not, _&&_, true≢false}
+use mathlib.Core.List.{List}
+use native.Mathlib.Omega.{arith}
+use lib.Dec.{leb}
+use lib.ListN.{length, length-replicate}
+use borrow.Author.Tests.{leb-true, leb-false, le-leb}
+use Rattle.tape.specs.Choice.{pick}
+use Rattle.tape.specs.declared.found.Found.{Found}
+use Rattle.tape.specs.declared.found.Found.the-variants.{Block, Mark, Stop}
+use Rattle.tape.specs.declared.found.Why.{Why}
+use Rattle.tape.specs.declared.found.Why.the-variants.{End, Unknown, Bad}
+use Rattle.tape.specs.declared.pass.Passed.{Passed}
+use Rattle.tape.specs.declared.pass.Passed.the-variants.{Past, Stopped}
+use Rattle.tape.specs.Record.{foundAt, markRecord, blockRecord}
+use Rattle.tape.specs.Recording.{recorded}
+use Rattle.tape.specs.Walk.{passed, endOf}
+use Rattle.tape.proofs.Standing.{block-fits, mark-fits}
+use Rattle.tape.proofs.Walking.{passed-within}
+use Rattle.tape.proofs.Recorded.{recorded-length}
+use Rattle.rules.specs.declared.drive.Drive.{Drive}
+use Rattle.rules.specs.declared.drive.Mode.{Mode}
+use Rattle.rules.specs.declared.drive.Mode.the-variants.{Idle, Writing, Reading}
+use Rattle.rules.specs.declared.drive.Bit.{Bit}
+use Rattle.rules.specs.declared.drive.Bit.the-variants.{Eom, Ude, Fil, Ndt}
+use Rattle.rules.specs.declared.unit.Phase.{Phase}
+use Rattle.rules.specs.declared.unit.Phase.the-variants.{Rest, Taking, Giving, Status}
+use Rattle.rules.specs.declared.unit.Port.{Port}
+use Rattle.rules.specs.declared.event.Act.{Act}
+use Rattle.rules.specs.Drive.{isWriting, isReading, stopping, inMode, made, passedTo, setHead}
+use Rattle.rules.specs.Unit.{atPhase}
+use Rattle.rules.specs.Refusal.{longest, modeFits, possiblePhase}
+use Rattle.rules.specs.Edge.{halted, edged, checked, searched}
+use Rattle.rules.specs.Effect.{Seat, Acted, leaves, resting}
+use Rattle.rules.specs.Bytes.{afterOctet}
+use Rattle.rules.proofs.Bools.{both, join}
+use Rattle.rules.proofs.Sound.{Fit, SoundSeat, idle-fits}
+use Rattle.rules.proofs.Acts
+
+-- Where the port ends: the same drive selected in a phase that goes with its mode, or one of four at Rest.
+pub data Landing (n : ℕ) (p : Port) (m : Mode) : Type 0 where
+  stays : p .selected ≡ n → possiblePhase (p .phase) m ≡ true → Landing n p m
+  rests : p .phase ≡ Rest → p .selected ≤ 3 → Landing n p m
+
+pub record Good (s : Seat) (m : Acted) : Type 0 where
+  pub fit : Fit (m .moved .drive)
+  pub long : length (m .tape) ≡ length (s .tape)
+  pub land : Landing (s .port .selected) (m .moved .port) (m .moved .drive .mode)
+  pub plug : s .drive .protected ≡ true → m .tape ≡ s .tape
+
+-- ---- a drive's record stays possible
+
+fit-head : (d : Drive) (h : ℕ) → Fit d → h ≤ longest → Fit (setHead h d)
+fit-head d h f l = record { near = l; mode = f .mode }
+
+fit-idle : (d : Drive) → Fit d → Fit (inMode Idle d)
+fit-idle d f = record { near = f .near; mode = idle-fits (d .mode) (d .loaded) (d .protected) (f .mode) }
+
+fit-stop : (b : Bit) (d : Drive) → Fit d → Fit (stopping b d)
+fit-stop b d f = record { near = f .near; mode = idle-fits (d .mode) (d .loaded) (d .protected) (f .mode) }
+
+halted-fit : (w : Why) (d : Drive) → Fit d → Fit (halted w d)
+halted-fit End d f = fit-stop Ndt d f
+halted-fit Unknown d f = fit-stop Ude d f
+halted-fit Bad d f = fit-stop Ude d f
+
+edged-fit : (t : List ℕ) (d : Drive) → length t ≤ longest → Fit d → (e : Found) → foundAt t (d .head) ≡ e → Fit (edged e d)
+edged-fit t d l f Block q = f
+edged-fit t d l f Mark q = fit-stop Fil (passedTo (d .head + 1) d) (fit-head d (d .head + 1) f (omega (arith, mark-fits t (d .head) q)))
+edged-fit t d l f (Stop w) q = halted-fit w d f
+
+checked-fit : (t : List ℕ) (d : Drive) → length t ≤ longest → Fit d → Fit (checked t d .drive)
+unfolding checked
+checked-fit t d l f = edged-fit t d l f _ refl
+
+searched-fit : (r : Passed) (d : Drive) → Fit d → endOf r ≤ longest → Fit (searched r d)
+searched-fit (Past at) d f l = fit-stop Fil (passedTo at d) (fit-head d at f l)
+searched-fit (Stopped at w) d f l = halted-fit w (passedTo at d) (fit-head d at f l)
+
+-- ---- the phase still goes with the mode
+
+taking-fits : (n : ℕ) (m : Mode) → n + 1 ≤ 511 → m ≡ Writing → possiblePhase (Taking (n + 1)) m ≡ true
+unfolding possiblePhase
+taking-fits n m h w = simp (le-leb 1 (n + 1) (omega arith), le-leb (n + 1) 511 h, w)
+
+giving-fits : (n : ℕ) (m : Mode) → n + 1 ≤ 511 → m ≡ Reading → possiblePhase (Giving (n + 1)) m ≡ true
+unfolding possiblePhase
+giving-fits n m h w = simp (le-leb 1 (n + 1) (omega arith), le-leb (n + 1) 511 h, w)
+
+fewer-fit : (k : ℕ) (m : Mode) → leb k 1 ≡ false → possiblePhase (Status k) m ≡ true → possiblePhase (Status (k - 1)) m ≡ true
+unfolding possiblePhase
+fewer-fit k m e h =
+    let a = leb-false k 1 e in
+    let b = leb-true k 6 (both (leb 1 k) (leb k 6) h .1) in
+    simp (le-leb 1 (k - 1) (omega (arith, a)), le-leb (k - 1) 6 (omega (arith, b)))
+
+six-fit : (m : Mode) → possiblePhase (Status 6) m ≡ true
+unfolding possiblePhase
+six-fit m = refl
+
+octet-land : (k : ℕ) (p : Port) (m : Mode) → p .selected ≤ 3 → possiblePhase (Status k) m ≡ true → Landing (p .selected) (atPhase (afterOctet k) p) m
+unfolding pick
+octet-land k p m l h = go (leb k 1) refl
+  where
+    go : (b : Bool) → leb k 1 ≡ b → Landing (p .selected) (atPhase (pick b Rest (Status (k - 1))) p) m
+    go true e = rests refl l
+    go false e = stays refl (fewer-fit k m e h)
+
+-- a protected drive is not Writing
+open-plug : (m : Mode) (l p : Bool) → modeFits m l p ≡ true → m ≡ Writing → p ≡ true → ⊥
+open-plug Idle l p h w q = let z : _≡_ {A = ℕ} 0 1 = cc in omega arith
+open-plug Writing l p h w q = true≢false (sym (both l (not p) h .1) ∙ ap not q)
+open-plug Reading l p h w q = let z : _≡_ {A = ℕ} 0 1 = cc in omega arith
+
+module _ (g : List ℕ) (w512 : length g ≡ 512) (s : Seat) (ok : SoundSeat s) where
+  -- only the record changed, at Rest
+  quiet : (m : Acted) → m .tape ≡ s .tape → m .moved .port .phase ≡ Rest → m .moved .port .selected ≡ s .port .selected → Fit (m .moved .drive) → Good s m
+  quiet m t p n f = record { fit = f; long = ap length t; land = rests p (rw n (ok .sel)); plug = λ _. t }
+
+  mark-good : (m : Acted) → s .drive .protected ≡ false → s .drive .head + 1 ≤ length (s .tape) → m .tape ≡ recorded (s .tape) (s .drive .head) markRecord
+      → m .moved .port .phase ≡ Rest → m .moved .port .selected ≡ s .port .selected → Fit (m .moved .drive) → Good s m
+  mark-good m o r t p n f =
+      record { fit = f; long = ap length t ∙ recorded-length (s .tape) markRecord (s .drive .head) r; land = rests p (rw n (ok .sel)); plug = λ q. absurd (true≢false (sym q ∙ o)) }
+
+  block-good : (m : Acted) → s .drive .mode ≡ Writing → s .drive .head + 1541 ≤ length (s .tape) → m .tape ≡ recorded (s .tape) (s .drive .head) (blockRecord g)
+      → m .moved .port .phase ≡ Rest → m .moved .port .selected ≡ s .port .selected → Fit (m .moved .drive) → Good s m
+  block-good m w r t p n f =
+      record {
+        fit = f;
+        long = ap length t ∙ recorded-length (s .tape) (blockRecord g) (s .drive .head) (rw w512 (omega (arith, r)));
+        land = rests p (rw n (ok .sel));
+        plug = λ q. absurd (open-plug (s .drive .mode) (s .drive .loaded) (s .drive .protected) (ok .fit .mode) w q);
+      }
+
+  writing-open : s .drive .mode ≡ Writing → s .drive .protected ≡ false
+  writing-open w = go (s .drive .protected) refl
+    where
+      go : (p : Bool) → s .drive .protected ≡ p → p ≡ false
+      go true e = absurd (open-plug (s .drive .mode) (s .drive .loaded) (s .drive .protected) (ok .fit .mode) w e)
+      go false e = refl
+
+  fit-block : s .drive .head + 1541 ≤ length (s .tape) → Fit (made (s .drive .head + 513) (s .drive))
+  fit-block r = fit-head (s .drive) (s .drive .head + 513) (ok .fit) (omega (arith, r, ok .near))
+
+  pub does-good : (a : Act) (m : Acted) → Acts.Does g s a m → Good s m
+  does-good a m (Acts.nothing c) = quiet m refl refl refl (ok .fit)
+  does-good a m (Acts.selects c n l e) = record { fit = ok .fit; long = refl; land = rests refl l; plug = λ _. refl }
+  does-good a m (Acts.rewinds c) = quiet m refl refl refl (fit-head (s .drive) 0 (ok .fit) zero-le)
+  does-good a m (Acts.erases p) =
+      record { fit = fit-head (s .drive) 0 (ok .fit) zero-le; long = length-replicate _ _; land = rests refl (ok .sel); plug = λ q. absurd (true≢false (sym q ∙ p)) }
+  does-good a m (Acts.sets-writing c o p) =
+      quiet m refl refl refl (record { near = ok .fit .near; mode = join (s .drive .loaded) (not (s .drive .protected)) o (ap not p) })
+  does-good a m (Acts.records-mark c p r) =
+      mark-good m p r refl refl refl (fit-idle (made (s .drive .head + 1) (s .drive)) (fit-head (s .drive) (s .drive .head + 1) (ok .fit) (omega (arith, r, ok .near))))
+  does-good a m (Acts.sets-reading c o) =
+      quiet m refl refl refl (checked-fit (s .tape) (inMode Reading (s .drive)) (ok .near) (record { near = ok .fit .near; mode = o }))
+  does-good a m (Acts.searches c) =
+      quiet m refl refl refl (searched-fit (passed (s .tape) (s .drive .head)) (s .drive) (ok .fit) (passed-within (s .tape) (s .drive .head) longest (ok .near) (ok .fit .near)))
+  does-good a m Acts.reports = record { fit = record { near = ok .fit .near; mode = ok .fit .mode }; long = refl; land = stays refl (six-fit (s .drive .mode)); plug = λ _. refl }
+  does-good a m (Acts.faults c b) = quiet m refl refl refl (record { near = ok .fit .near; mode = ok .fit .mode })
+  does-good a m (Acts.meets-plug c) = quiet m refl refl refl (record { near = ok .fit .near; mode = ok .fit .mode })
+  does-good a m (Acts.halts x b) = quiet m refl refl refl (fit-stop b (s .drive) (ok .fit))
+  does-good a m (Acts.stages b n l w) =
+      record { fit = ok .fit; long = refl; land = stays refl (taking-fits n (s .drive .mode) l w); plug = λ _. refl }
+  does-good a m (Acts.records-block b w r) = block-good m w r refl refl refl (fit-block r)
+  does-good a m (Acts.records-last b w r) = block-good m w r refl refl refl (fit-stop Eom (made (s .drive .head + 513) (s .drive)) (fit-block r))
+  does-good a m (Acts.hands-octet k e) =
+      record { fit = ok .fit; long = refl; land = octet-land k (s .port) (s .drive .mode) (ok .sel) (rw e at (ok .phase)); plug = λ _. refl }
+  does-good a m (Acts.hands-byte n l w e) =
+      record { fit = ok .fit; long = refl; land = stays refl (giving-fits n (s .drive .mode) l w); plug = λ _. refl }
+  does-good a m (Acts.hands-last q w e) =
+      quiet m refl refl refl
+      (checked-fit (s .tape) _ (ok .near) (fit-head (s .drive) (s .drive .head + 513) (ok .fit) (omega (arith, block-fits (s .tape) (s .drive .head) e, ok .near))))
+  does-good a m (Acts.meets-edge r) = quiet m refl refl refl (checked-fit (s .tape) (s .drive) (ok .near) (ok .fit))
+  does-good a m (Acts.levels x b) = quiet m refl refl refl (ok .fit)
+  does-good a m Acts.goes-idle = quiet m refl refl refl (fit-idle (s .drive) (ok .fit))
+  does-good a m Acts.goes-home = quiet m refl refl refl (fit-head (inMode Idle (s .drive)) 0 (fit-idle (s .drive) (ok .fit)) zero-le)
+  does-good a m (Acts.leaves-mark w r) =
+      mark-good m (writing-open w) r refl refl refl (fit-head (inMode Idle (s .drive)) 0 (fit-idle (s .drive) (ok .fit)) zero-le)
+  does-good a m Acts.has-no-room = quiet m refl refl refl (fit-stop Eom (s .drive) (ok .fit))

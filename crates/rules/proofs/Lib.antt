@@ -1,0 +1,15 @@
+pub mod Bools
+pub mod Places
+pub mod Sound
+pub mod Codes
+pub mod Acts
+pub mod Leaves
+pub mod Good
+pub mod StepBy
+pub mod Keeps
+pub mod Refused
+pub mod Table
+pub mod Illegal
+pub mod Status
+pub mod Plug
+pub mod Outcomes

@@ -1,0 +1,97 @@
+-- One event: refused in one of the ways, or taken in a sound world. Every promise of a step goes by these two.
+use Prim.Native.Nat.{ℕ, _≤_}
+use mathlib.Core.Path.{_≡_, refl, _∙_}
+use mathlib.Core.Bool.{Bool, true, false}
+use mathlib.Core.List.{List}
+use lib.ListN.{length, length-set}
+use Rattle.tape.specs.Choice.{pick}
+use Rattle.rules.specs.declared.unit.Core.{Core}
+use Rattle.rules.specs.declared.unit.Phase.{Phase}
+use Rattle.rules.specs.declared.event.Act.{Act}
+use Rattle.rules.specs.declared.event.Act.the-variants.{Command, Give, Take, Online, Offline}
+use Rattle.rules.specs.declared.event.Event.{Event}
+use Rattle.rules.specs.declared.event.Event.the-variants.{NoEvent, Reset, Named, Own}
+use Rattle.rules.specs.declared.answer.Answer.{Answer}
+use Rattle.rules.specs.declared.answer.Answer.the-variants.{Taken, OutOfStep, WrongSlot, TooLong, Impossible}
+use Rattle.rules.specs.Unit.{Lent, driveAt, Whole}
+use Rattle.rules.specs.Event.{eventOf}
+use Rattle.rules.specs.Answer.{rowOf}
+use Rattle.rules.specs.Refusal.{possible, short, inStepAt, slotFits, refusalIn, refusalBy, refusalOf}
+use Rattle.rules.specs.Effect.{Acted}
+use Rattle.rules.specs.Bytes.{stagedByte}
+use Rattle.rules.specs.Step.{Stepped, act, staged, stagedIn, seatOf, refused, effectOf, settled, stepBy, stepOf}
+use Rattle.rules.proofs.Sound.{Sound, SoundSeat, sound, sound-seat}
+use Rattle.rules.proofs.Acts.{Does, act-does}
+
+-- nothing refuses: then the act is in step, and the slot is as the event asks
+pub in-step : (b : Bool) → pick b Taken OutOfStep ≡ Taken → b ≡ true
+unfolding pick
+in-step true h = refl
+in-step false h = cc
+
+pub slot-fits : (b : Bool) → pick b Taken WrongSlot ≡ Taken → b ≡ true
+unfolding pick
+slot-fits true h = refl
+slot-fits false h = cc
+
+-- what refuses an event is `Taken` or a refusal
+unrefused : (c : Core) (e : Event) → rowOf (refusalIn c e) .refuses ≡ false → refusalIn c e ≡ Taken
+unfolding pick
+unrefused c NoEvent h = cc
+unrefused c Reset h = refl
+unrefused c (Named i w) h = go (slotFits (driveAt c i .loaded) w) h
+  where
+    go : (b : Bool) → rowOf (pick b Taken WrongSlot) .refuses ≡ false → pick b Taken WrongSlot ≡ Taken
+    go true h = refl
+    go false h = cc
+unrefused c (Own a) h = go (inStepAt (c .port .phase) (driveAt c (c .port .selected)) a) h
+  where
+    go : (b : Bool) → rowOf (pick b Taken OutOfStep) .refuses ≡ false → pick b Taken OutOfStep ≡ Taken
+    go true h = refl
+    go false h = cc
+
+pub settled-by : (P : Stepped → Type 0) (c : Core) (l : Lent) (e : Event) → ((a : Answer) → rowOf a .refuses ≡ true → P (refused a c l))
+    → (refusalIn c e ≡ Taken → P (effectOf c l e)) → P (settled c l e (refusalIn c e))
+unfolding pick
+settled-by P c l e f g = go (rowOf (refusalIn c e) .refuses) refl
+  where
+    go : (b : Bool) → rowOf (refusalIn c e) .refuses ≡ b → P (pick b (refused (refusalIn c e) c l) (effectOf c l e))
+    go true h = f (refusalIn c e) h
+    go false h = g (unrefused c e h)
+
+pub step-by : (P : Stepped → Type 0) (c : Core) (l : Lent) (event : List ℕ) → ((a : Answer) → rowOf a .refuses ≡ true → P (refused a c l))
+    → (possible c ≡ true → short l ≡ true → refusalIn c (eventOf event) ≡ Taken → P (effectOf c l (eventOf event))) → P (stepOf c l event)
+unfolding pick stepOf stepBy refusalOf
+step-by P c l event f g = go (possible c) (short l) refl refl
+  where
+    go : (a b : Bool) → possible c ≡ a → short l ≡ b → P (settled c l (eventOf event) (refusalBy a b (refusalIn c (eventOf event))))
+    go true true p q = settled-by P c l (eventOf event) f (g p q)
+    go true false p q = f TooLong refl
+    go false b p q = f Impossible refl
+
+-- the same with the staging block of 512 bytes
+pub step-sound : (P : Stepped → Type 0) (c : Core) (l : Lent) (event : List ℕ) → Whole l → ((a : Answer) → rowOf a .refuses ≡ true → P (refused a c l))
+    → (Sound c l → refusalIn c (eventOf event) ≡ Taken → P (effectOf c l (eventOf event))) → P (stepOf c l event)
+step-sound P c l event w f g = step-by P c l event f (λ p q r. g (sound c l p q w) r)
+
+pub sound-step : (P : Stepped → Type 0) (c : Core) (l : Lent) (event : List ℕ) → Whole l → ((a : Answer) → P (refused a c l))
+    → (Sound c l → refusalIn c (eventOf event) ≡ Taken → P (effectOf c l (eventOf event))) → P (stepOf c l event)
+sound-step P c l event w f g = step-sound P c l event w (λ a _. f a) g
+
+-- a byte staged leaves the block's length, and so a sound world
+staged-length : (ph : Phase) (a : Act) (g : List ℕ) → length (staged ph a g) ≡ length g
+unfolding stagedByte
+staged-length ph (Command c) g = refl
+staged-length ph (Give b) g = length-set g _ b
+staged-length ph Take g = refl
+staged-length ph Online g = refl
+staged-length ph Offline g = refl
+
+pub staged-sound : (c : Core) (l : Lent) (a : Act) → Sound c l → Sound c (stagedIn c a l)
+staged-sound c l a k =
+    record { sel = k .sel; phase = k .phase; fit = k .fit; near = k .near; whole = staged-length (c .port .phase) a (l .staging) ∙ k .whole }
+
+-- what the selected drive does in an event that is taken
+pub own-does : (c : Core) (l : Lent) (a : Act) → Sound c l → refusalIn c (Own a) ≡ Taken
+    → Does (stagedIn c a l .staging) (seatOf c l) a (act (stagedIn c a l .staging) (seatOf c l) a)
+own-does c l a k h = act-does (stagedIn c a l .staging) (seatOf c l) (sound-seat c l k) a (in-step _ h)

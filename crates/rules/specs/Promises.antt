@@ -1,0 +1,8 @@
+-- The promises made of the rules. Each is stated here and proved in proofs/.
+pub mod Table
+pub mod Refused
+pub mod Orders
+pub mod Status
+pub mod Possible
+pub mod Plug
+pub mod Outcomes
