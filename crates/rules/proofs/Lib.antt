@@ -13,3 +13,5 @@ pub mod Illegal
 pub mod Status
 pub mod Plug
 pub mod Outcomes
+pub mod Runs
+pub mod Wrong

@@ -5,4 +5,6 @@ pub mod Orders
 pub mod Status
 pub mod Possible
 pub mod Plug
+pub mod Runs
+pub mod Wrong
 pub mod Outcomes

@@ -1,8 +1,10 @@
 -- A run: events one after the other, each record and tape handed back as the last event left it.
 use Prim.Native.Nat.{ℕ}
 use mathlib.Core.List.{List, [], _∷_}
+use lib.ListN.{replicate}
 use Rattle.rules.specs.declared.unit.Core.{Core}
-use Rattle.rules.specs.Unit.{Lent}
+use Rattle.rules.specs.declared.answer.Turn.{Turn}
+use Rattle.rules.specs.Unit.{Lent, lent, freshCore}
 use Rattle.rules.specs.Step.{stepOf}
 
 pub record World : Type 0 where
@@ -19,3 +21,16 @@ after w e = world (stepOf (w .core) (w .lent) e .turn .core) (stepOf (w .core) (
 abbrev pub run : World → List (List ℕ) → World
 run w [] = w
 run w (e ∷ es) = run (after w e) es
+
+-- What each event of a run was answered.
+unfoldable pub turnOf : World → List ℕ → Turn
+unfolding stepOf
+turnOf w e = stepOf (w .core) (w .lent) e .turn
+
+abbrev pub turns : World → List (List ℕ) → List Turn
+turns w [] = []
+turns w (e ∷ es) = turnOf w e ∷ turns (after w e) es
+
+-- A fresh unit with the tapes of its four drives.
+abbrev pub freshWorld : List ℕ → List ℕ → List ℕ → List ℕ → World
+freshWorld a b c d = world freshCore (lent (replicate 512 0) a b c d)

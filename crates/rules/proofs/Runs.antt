@@ -1,0 +1,30 @@
+-- The runs, computed.
+use mathlib.Core.Path.{refl}
+use Rattle.tape.specs.Choice.{pick}
+use Rattle.tape.specs.Record.{ofKind, foundAt}
+use Rattle.tape.specs.Recording.{recorded}
+use Rattle.tape.specs.Walk.{walk, trail}
+use Rattle.rules.specs.Drive.{counted}
+use Rattle.rules.specs.Unit.{oneOf, putAt, putLast}
+use Rattle.rules.specs.Event.{bareEvent, bodiedEvent, eventOf}
+use Rattle.rules.specs.Refusal.{possibleDrive, possiblePhase, possible, short, refusalOf}
+use Rattle.rules.specs.Lines.{linesOf}
+use Rattle.rules.specs.Order.{orderOf, illegal, faultBy}
+use Rattle.rules.specs.Edge.{checked}
+use Rattle.rules.specs.Octets.{withTop, octet0, octet1, octetsOf}
+use Rattle.rules.specs.Effect.{faultOf}
+use Rattle.rules.specs.Bytes.{stagedByte, afterBlock, stored, handed, octetTaken}
+use Rattle.rules.specs.Online.{dropped}
+use Rattle.rules.specs.Step.{stepBy, stepOf}
+use Rattle.rules.specs.Run.{after, turnOf}
+use Rattle.rules.specs.Promises.Runs.{StarredRunsHold, RunsToCheckHold}
+
+both-hold : StarredRunsHold × RunsToCheckHold
+unfolding pick ofKind foundAt recorded walk trail counted oneOf putAt putLast bareEvent bodiedEvent eventOf possibleDrive possiblePhase possible short refusalOf linesOf orderOf illegal faultBy checked withTop octet0 octet1 octetsOf faultOf stagedByte afterBlock stored handed octetTaken dropped stepBy stepOf after turnOf
+both-hold = (refl, refl)
+
+pub starred-runs-hold : StarredRunsHold
+starred-runs-hold = both-hold .0
+
+pub runs-to-check-hold : RunsToCheckHold
+runs-to-check-hold = both-hold .1

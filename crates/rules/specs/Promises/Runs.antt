@@ -1,0 +1,166 @@
+-- Runs to check: each from a fresh unit with a tape in drive 0.
+use Prim.Native.Nat.{ℕ}
+use mathlib.Core.Path.{_≡_}
+use mathlib.Core.Bool.{Bool, true, false}
+use mathlib.Core.List.{List, [], _∷_, _++_, map}
+use lib.ListN.{length, getD, take, drop, replicate}
+use Rattle.rules.specs.declared.answer.Turn.{Turn}
+use Rattle.rules.specs.declared.answer.Answer.the-variants.{Taken}
+use Rattle.rules.specs.Answer.{rowOf}
+use Rattle.rules.specs.Run.{World, run, turns, freshWorld}
+
+-- Events as bytes: READ STATUS with its six octets taken; cartridge in, open and protected; ONLINE raised and an order; bytes given.
+abbrev pub report : List (List ℕ)
+report = (1 ∷ 192 ∷ []) ∷ replicate 6 (3 ∷ [])
+
+abbrev pub openIn : ℕ → List (List ℕ)
+openIn i = (7 ∷ i ∷ []) ∷ []
+
+abbrev pub protectedIn : List (List ℕ)
+protectedIn = (7 ∷ 128 ∷ []) ∷ []
+
+abbrev pub command : ℕ → List (List ℕ)
+command c = (1 ∷ c ∷ []) ∷ []
+
+abbrev pub online : List (List ℕ)
+online = (4 ∷ []) ∷ []
+
+abbrev pub offline : List (List ℕ)
+offline = (5 ∷ []) ∷ []
+
+abbrev pub reset : List (List ℕ)
+reset = (6 ∷ []) ∷ []
+
+abbrev pub giving : ℕ → ℕ → List (List ℕ)
+giving n b = replicate n (2 ∷ b ∷ [])
+
+-- A run that document 01 marks: the tape of drive 0, the events, octets 0 and 1 of the report made after them, and the tape then.
+pub record Case : Type 0 where
+  pub tape : List ℕ
+  pub events : List (List ℕ)
+  pub octets : List ℕ
+  pub after : List ℕ
+
+abbrev pub case : List ℕ → List (List ℕ) → ℕ → ℕ → List ℕ → Case
+case t es a b t′ = record { tape = t; events = es; octets = a ∷ b ∷ []; after = t′ }
+
+-- A loaded drive whose POR was read, and ONLINE up for tape orders.
+abbrev pub ready : List (List ℕ)
+ready = openIn 0 ++ report
+
+abbrev pub readyProtected : List (List ℕ)
+readyProtected = protectedIn ++ report
+
+abbrev pub starred : List Case
+starred =
+    -- Fresh, no cartridge: C0 81. Again: C0 00.
+    case [] [] 192 129 []
+    ∷ case [] report 192 0 []
+    -- Loaded open, POR read: 00 88. Protected: 90 88.
+    ∷ case (replicate 16 0) ready 0 136 (replicate 16 0)
+    ∷ case (replicate 16 0) readyProtected 144 136 (replicate 16 0)
+    -- Loaded open, POR read, code 00: 00 C8. The same with code 03: 00 C8.
+    ∷ case (replicate 16 0) (ready ++ command 0) 0 200 (replicate 16 0)
+    ∷ case (replicate 16 0) (ready ++ command 3) 0 200 (replicate 16 0)
+    -- READ on an empty tape: 00 A8.
+    ∷ case (replicate 16 0) (ready ++ (online ++ command 128)) 0 168 (replicate 16 0)
+    -- WRITE, protected: 90 88, tape same.
+    ∷ case (replicate 1541 0) (readyProtected ++ (online ++ command 64)) 144 136 (replicate 1541 0)
+    -- L = 1541: one block is taken, then 88 00. L = 1540: WRITE gives 88 88 at once.
+    ∷ case (replicate 1541 0) (ready ++ (online ++ (command 64 ++ giving 512 7))) 136 0 (1 ∷ (replicate 512 7 ++ replicate 1028 0))
+    ∷ case (replicate 1540 0) (ready ++ (online ++ command 64)) 136 136 (replicate 1540 0)
+    -- Mark passed, head 1: 81 00. Kind 07 at head 1, READ: 84 00.
+    ∷ case (2 ∷ replicate 15 0) (ready ++ (online ++ command 160)) 129 0 (2 ∷ replicate 15 0)
+    ∷ case (2 ∷ 7 ∷ replicate 14 0) (ready ++ (online ++ (command 160 ++ (report ++ command 128)))) 132 0 (2 ∷ 7 ∷ replicate 14 0)
+    ∷ []
+
+-- What the run of a case shows: the first two bytes that the report hands out, and the tape.
+pub record Shown : Type 0 where
+  pub octets : List ℕ
+  pub tape : List ℕ
+
+abbrev pub shownBy : Case → Shown
+shownBy c =
+    let w = run (freshWorld (c .tape) [] [] []) (c .events) in
+    record { octets = take 2 (drop 1 (map (λ (r : Turn). r .byte) (turns w report))); tape = run w report .lent .tape0 }
+
+abbrev pub wanted : Case → Shown
+wanted c = record { octets = c .octets; tape = c .after }
+
+-- All of them, as one list under one statement.
+abbrev pub StarredRunsHold : Type 0
+StarredRunsHold = map shownBy starred ≡ map wanted starred
+
+-- The runs without a mark, and 'Easy to get wrong': the events, and the number of the last answer, the octets made last, the heads of drives 0 and 1 and their tapes.
+pub record Run : Type 0 where
+  pub tapes : World
+  pub events : List (List ℕ)
+
+pub record Ending : Type 0 where
+  pub answer : ℕ
+  pub octets : List ℕ
+  pub head0 : ℕ
+  pub head1 : ℕ
+  pub tape0 : List ℕ
+  pub tape1 : List ℕ
+
+abbrev pub ends : ℕ → List ℕ → ℕ → ℕ → List ℕ → List ℕ → Ending
+ends a o h k t u = record { answer = a; octets = o; head0 = h; head1 = k; tape0 = t; tape1 = u }
+
+abbrev pub lastAnswer : List Turn → ℕ
+lastAnswer [] = 0
+lastAnswer (r ∷ []) = rowOf (r .answer) .number
+lastAnswer (r ∷ (s ∷ rs)) = lastAnswer (s ∷ rs)
+
+abbrev pub endOf : Run → Ending
+endOf r =
+    let w = run (r .tapes) (r .events) in
+    ends (lastAnswer (turns (r .tapes) (r .events))) (w .core .port .octets) (w .core .drive0 .head) (w .core .drive1 .head) (w .lent .tape0) (w .lent .tape1)
+
+abbrev pub from : ℕ → ℕ → List (List ℕ) → Run
+from n m es = record { tapes = freshWorld (replicate n 0) (replicate m 0) [] []; events = es }
+
+-- A fresh unit's report of a loaded drive: CNI is no more, POR stands, BOM.
+abbrev pub firstReport : List ℕ
+firstReport = 0 ∷ 137 ∷ 0 ∷ 0 ∷ 0 ∷ 0 ∷ []
+
+abbrev pub writing : List (List ℕ)
+writing = ready ++ (online ++ command 64)
+
+abbrev pub runsToCheck : List Run
+runsToCheck =
+    -- 511 bytes given, then command: answer 2. 512: taken.
+    from 2000 0 (writing ++ (giving 511 7 ++ command 192))
+    ∷ from 2054 0 (writing ++ (giving 512 7 ++ command 192))
+    -- WRITE, RESET: tape same. WRITE, ONLINE dropped: one mark, head 0.
+    ∷ from 2000 0 (writing ++ (giving 3 7 ++ reset))
+    ∷ from 2000 0 (writing ++ offline)
+    -- A cartridge changed between two reports: CNI must still show.
+    ∷ from 16 0 (ready ++ ((8 ∷ 0 ∷ []) ∷ (openIn 0 ++ report)))
+    -- An underrun while octets are going out belongs to the next report.
+    ∷ from 16 0 (ready ++ ((1 ∷ 192 ∷ []) ∷ (3 ∷ []) ∷ (10 ∷ 0 ∷ []) ∷ replicate 5 (3 ∷ [])))
+    ∷ from 16 0 (ready ++ (((1 ∷ 192 ∷ []) ∷ (3 ∷ []) ∷ (10 ∷ 0 ∷ []) ∷ replicate 5 (3 ∷ [])) ++ report))
+    -- A part block left in staging by RESET must not begin another drive's block.
+    ∷ from 2000 2054 (writing ++ (giving 3 9 ++ (reset ++ (report ++ (openIn 1 ++ (command 2 ++ (report ++ (command 64 ++ giving 512 7))))))))
+    -- A rewind of a drive because ONLINE fell while it was not selected.
+    ∷ from 16 16 (ready ++ (online ++ (command 96 ++ (command 2 ++ offline))))
+    -- A mark written twice: WRITE FILE MARK, then ONLINE dropped, records one.
+    ∷ from 2000 0 (writing ++ (command 96 ++ offline))
+    ∷ []
+
+abbrev pub endings : List Ending
+endings =
+    ends 2 firstReport 0 0 (replicate 2000 0) []
+    ∷ ends 0 (0 ∷ 0 ∷ 0 ∷ 0 ∷ 0 ∷ 0 ∷ []) 513 0 (1 ∷ (replicate 512 7 ++ replicate 1541 0)) []
+    ∷ ends 1 firstReport 0 0 (replicate 2000 0) []
+    ∷ ends 0 firstReport 0 0 (2 ∷ replicate 1999 0) []
+    ∷ ends 0 (192 ∷ 136 ∷ 0 ∷ 0 ∷ 0 ∷ 0 ∷ []) 0 0 (replicate 16 0) []
+    ∷ ends 0 (0 ∷ 136 ∷ 0 ∷ 0 ∷ 0 ∷ 0 ∷ []) 0 0 (replicate 16 0) []
+    ∷ ends 0 (0 ∷ 136 ∷ 0 ∷ 0 ∷ 0 ∷ 1 ∷ []) 0 0 (replicate 16 0) []
+    ∷ ends 0 (0 ∷ 137 ∷ 0 ∷ 0 ∷ 0 ∷ 0 ∷ []) 0 513 (replicate 2000 0) (1 ∷ (replicate 512 7 ++ replicate 1541 0))
+    ∷ ends 0 firstReport 1 0 (2 ∷ replicate 15 0) (replicate 16 0)
+    ∷ ends 0 firstReport 0 0 (2 ∷ replicate 1999 0) []
+    ∷ []
+
+abbrev pub RunsToCheckHold : Type 0
+RunsToCheckHold = map endOf runsToCheck ≡ endings
