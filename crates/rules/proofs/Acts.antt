@@ -10,8 +10,8 @@ use borrow.Author.Tests.{leb-true, leb-false, ltb-true, ltb-false}
 use Rattle.tape.specs.Choice.{pick}
 use Rattle.tape.specs.declared.found.Found.{Found}
 use Rattle.tape.specs.declared.found.Found.the-variants.{Block, Mark, Stop}
-use Rattle.tape.specs.Record.{foundAt, markRecord, blockRecord}
-use Rattle.tape.specs.Recording.{recorded, erased}
+use Rattle.tape.specs.Record.{foundAt}
+use Rattle.tape.specs.Recording.{erased}
 use Rattle.tape.specs.Walk.{passed}
 use Rattle.rules.specs.declared.drive.Drive.{Drive}
 use Rattle.rules.specs.declared.drive.Mode.{Mode}
@@ -26,44 +26,50 @@ use Rattle.rules.specs.declared.order.Order.{Order}
 use Rattle.rules.specs.declared.order.Order.the-variants.{NoOrder, Select, Bot, Erase, Initialize, Write, WriteMark, Read, ReadMark, ReadStatus}
 use Rattle.rules.specs.declared.order.Fault.{Fault}
 use Rattle.rules.specs.declared.order.Fault.the-variants.{Fine, Illegal, Empty, Plugged, Full}
-use Rattle.rules.specs.Drive.{isWriting, isReading, writes, reads, rewound, raised, latching, stopping, inMode, made, passedTo, cleared}
+use Rattle.rules.specs.Drive.{isWriting, isReading, writes, reads, rewound, chosen, raised, latching, stopping, inMode, made, passedTo, cleared}
 use Rattle.rules.specs.Unit.{atPhase, atDrive, atLevel, showing}
 use Rattle.rules.specs.Refusal.{possiblePhase, takes, gives, inStepAt}
 use Rattle.rules.specs.Order.{orderOf, needsOf, test5, test6, hasRoom, illegal, firstFault, faultBy}
 use Rattle.rules.specs.Edge.{isBlock, checked, searched}
 use Rattle.rules.specs.Octets.{octetsOf}
-use Rattle.rules.specs.Effect.{Seat, Acted, leaves, hands, resting, ordered, faultOf, commanded}
+use Rattle.rules.specs.Effect.{Seat, Acted, leaves, hands, withMark, withBlock, resting, ordered, faultOf, commanded}
 use Rattle.rules.specs.Bytes.{givenBefore, roomToWrite, afterBlock, stored, gave, handed, firstTaken, nextTaken, octetPlace, afterOctet, octetTaken, took}
 use Rattle.rules.specs.Online.{levelled, leftAlone, leaving, dropped}
 use Rattle.rules.specs.Step.{act}
-use Rattle.rules.proofs.Bools.{both, unasked, not-not}
+use Rattle.rules.proofs.Bools.{both, not-not}
 use Rattle.rules.proofs.Sound.{SoundSeat}
 use Rattle.rules.proofs.Codes.{select-real, erase-code, status-code}
+
+-- What an order that passed the tests has shown.
+pub record Passes (s : Seat) (o : Order) : Type 0 where
+  pub cartridge : test5 (s .drive) (needsOf o) ≡ false
+  pub plug : test6 (s .drive) (needsOf o) ≡ false
+  pub room : hasRoom (needsOf o .room) (s .drive .head) (length (s .tape)) ≡ true
 
 pub data Does (g : List ℕ) (s : Seat) : Act → Acted → Type 0 where
   -- orders that passed the tests
   nothing : (c : ℕ) → Does g s (Command c) (leaves false (resting s) (s .drive) (s .tape))
-  selects : (c n : ℕ) → n ≤ 3 → orderOf c ≡ Select n → Does g s (Command c) (leaves false (atDrive n (s .port)) (s .drive) (s .tape))
+  selects : (c n : ℕ) → n ≤ 3 → orderOf c ≡ Select n → Does g s (Command c) (leaves false (atDrive n (s .port)) (chosen (s .drive)) (s .tape))
   rewinds : (c : ℕ) → Does g s (Command c) (leaves false (resting s) (rewound (s .drive)) (s .tape))
-  erases : s .drive .protected ≡ false → Does g s (Command 34) (leaves false (resting s) (rewound (s .drive)) (erased (s .tape)))
-  sets-writing : (c : ℕ) → s .drive .loaded ≡ true → s .drive .protected ≡ false → Does g s (Command c) (leaves false (resting s) (inMode Writing (s .drive)) (s .tape))
-  records-mark : (c : ℕ) → s .drive .protected ≡ false → s .drive .head + 1 ≤ length (s .tape)
-      → Does g s (Command c) (leaves false (resting s) (inMode Idle (made (s .drive .head + 1) (s .drive))) (recorded (s .tape) (s .drive .head) markRecord))
-  sets-reading : (c : ℕ) → s .drive .loaded ≡ true
+  erases : Passes s Erase → Does g s (Command 34) (leaves false (resting s) (rewound (s .drive)) (erased (s .tape)))
+  sets-writing : (c : ℕ) → Passes s Write → Does g s (Command c) (leaves false (resting s) (inMode Writing (s .drive)) (s .tape))
+  records-mark : (c : ℕ) → Passes s WriteMark
+      → Does g s (Command c) (leaves false (resting s) (inMode Idle (made (s .drive .head + 1) (s .drive))) (withMark (s .drive) (s .tape)))
+  sets-reading : (c : ℕ) → Passes s Read
       → Does g s (Command c) (leaves (checked (s .tape) (inMode Reading (s .drive)) .raised) (resting s) (checked (s .tape) (inMode Reading (s .drive)) .drive) (s .tape))
   searches : (c : ℕ) → Does g s (Command c) (leaves true (resting s) (searched (passed (s .tape) (s .drive .head)) (s .drive)) (s .tape))
   reports : Does g s (Command 192) (leaves false (showing (octetsOf (s .drive)) (s .port)) (cleared (s .drive)) (s .tape))
   -- tests 1 to 7
   faults : (c : ℕ) (b : Bit) → Does g s (Command c) (leaves true (resting s) (latching b (s .drive)) (s .tape))
   meets-plug : (c : ℕ) → Does g s (Command c) (leaves true (resting s) (raised (s .drive)) (s .tape))
-  -- EOM or UDE, with nothing recorded
-  halts : (a : Act) (b : Bit) → Does g s a (leaves true (resting s) (stopping b (s .drive)) (s .tape))
+  finds-no-room : (c : ℕ) → Does g s (Command c) (leaves true (resting s) (stopping Eom (s .drive)) (s .tape))
   -- a byte given
   stages : (b n : ℕ) → n + 1 ≤ 511 → s .drive .mode ≡ Writing → Does g s (Give b) (leaves false (atPhase (Taking (n + 1)) (s .port)) (s .drive) (s .tape))
   records-block : (b : ℕ) → s .drive .mode ≡ Writing → s .drive .head + 1541 ≤ length (s .tape)
-      → Does g s (Give b) (leaves false (resting s) (made (s .drive .head + 513) (s .drive)) (recorded (s .tape) (s .drive .head) (blockRecord g)))
+      → Does g s (Give b) (leaves false (resting s) (made (s .drive .head + 513) (s .drive)) (withBlock g (s .drive) (s .tape)))
   records-last : (b : ℕ) → s .drive .mode ≡ Writing → s .drive .head + 1541 ≤ length (s .tape)
-      → Does g s (Give b) (leaves true (resting s) (stopping Eom (made (s .drive .head + 513) (s .drive))) (recorded (s .tape) (s .drive .head) (blockRecord g)))
+      → Does g s (Give b) (leaves true (resting s) (stopping Eom (made (s .drive .head + 513) (s .drive))) (withBlock g (s .drive) (s .tape)))
+  drops-block : (b : ℕ) → Does g s (Give b) (leaves true (resting s) (stopping Eom (s .drive)) (s .tape))
   -- a byte taken
   hands-octet : (k : ℕ) → s .port .phase ≡ Status k
       → Does g s Take (hands false (getD (s .port .octets) (octetPlace k) 0) (atPhase (afterOctet k) (s .port)) (s .drive) (s .tape))
@@ -73,12 +79,14 @@ pub data Does (g : List ℕ) (s : Seat) : Act → Acted → Type 0 where
       → Does g s Take
       (hands (checked (s .tape) (passedTo (s .drive .head + 513) (s .drive)) .raised) (getD (s .tape) (s .drive .head + 512) 0) (resting s) (checked (s .tape) (passedTo (s .drive .head + 513) (s .drive)) .drive) (s .tape))
   meets-edge : checked (s .tape) (s .drive) .raised ≡ true → Does g s Take (leaves true (resting s) (checked (s .tape) (s .drive) .drive) (s .tape))
+  finds-no-block : Does g s Take (leaves true (resting s) (stopping Ude (s .drive)) (s .tape))
   -- ONLINE
-  levels : (a : Act) (b : Bool) → Does g s a (leaves false (atLevel b (s .port)) (s .drive) (s .tape))
+  goes-up : Does g s Online (leaves false (atLevel true (s .port)) (s .drive) (s .tape))
+  goes-down : Does g s Offline (leaves false (atLevel false (s .port)) (s .drive) (s .tape))
   goes-idle : Does g s Offline (leaves false (atLevel false (s .port)) (inMode Idle (s .drive)) (s .tape))
   goes-home : Does g s Offline (leaves false (atLevel false (s .port)) (rewound (inMode Idle (s .drive))) (s .tape))
   leaves-mark : s .drive .mode ≡ Writing → s .drive .head + 1 ≤ length (s .tape)
-      → Does g s Offline (leaves false (atLevel false (s .port)) (rewound (inMode Idle (s .drive))) (recorded (s .tape) (s .drive .head) markRecord))
+      → Does g s Offline (leaves false (atLevel false (s .port)) (rewound (inMode Idle (s .drive))) (withMark (s .drive) (s .tape)))
   has-no-room : Does g s Offline (leaves true (atLevel false (s .port)) (stopping Eom (s .drive)) (s .tape))
 
 -- by cases on a test
@@ -86,12 +94,6 @@ by-test : {g : List ℕ} {s : Seat} {a : Act} (b : Bool) {x y : Acted} → (b �
 unfolding pick
 by-test true f h = f refl
 by-test false f h = h refl
-
--- what an order that passed the tests has shown
-record Passes (s : Seat) (o : Order) : Type 0 where
-  cartridge : test5 (s .drive) (needsOf o) ≡ false
-  plug : test6 (s .drive) (needsOf o) ≡ false
-  room : hasRoom (needsOf o .room) (s .drive .head) (length (s .tape)) ≡ true
 
 passes : (s : Seat) (o : Order) → faultOf s o ≡ Fine → Passes s o
 unfolding faultOf faultBy pick
@@ -135,11 +137,11 @@ module _ (g : List ℕ) (s : Seat) (ok : SoundSeat s) where
   ordered-does c NoOrder e p = nothing c
   ordered-does c (Select n) e p = selects c n (select-real c n e) e
   ordered-does c Bot e p = rewinds c
-  ordered-does c Erase e p = rw (erase-code c e) (erases (p .plug))
+  ordered-does c Erase e p = rw (erase-code c e) (erases p)
   ordered-does c Initialize e p = rewinds c
-  ordered-does c Write e p = sets-writing c (not-not (s .drive .loaded) (p .cartridge)) (p .plug)
-  ordered-does c WriteMark e p = records-mark c (p .plug) (leb-true _ _ (p .room))
-  ordered-does c Read e p = sets-reading c (not-not (s .drive .loaded) (p .cartridge))
+  ordered-does c Write e p = sets-writing c p
+  ordered-does c WriteMark e p = records-mark c p
+  ordered-does c Read e p = sets-reading c p
   ordered-does c ReadMark e p = searches c
   ordered-does c ReadStatus e p = rw (status-code c e) reports
 
@@ -148,7 +150,7 @@ module _ (g : List ℕ) (s : Seat) (ok : SoundSeat s) where
   commanded-does c o e Illegal h = faults c Ill
   commanded-does c o e Empty h = faults c Cni
   commanded-does c o e Plugged h = meets-plug c
-  commanded-does c o e Full h = halts (Command c) Eom
+  commanded-does c o e Full h = finds-no-room c
 
   gave-does : (b n : ℕ) → s .drive .mode ≡ Writing → Does g s (Give b) (gave g s n)
   unfolding stored afterBlock
@@ -156,7 +158,7 @@ module _ (g : List ℕ) (s : Seat) (ok : SoundSeat s) where
       by-test (ltb n 511) (λ h. stages b n (omega (arith, ltb-true n 511 h)) w)
       (λ _. by-test (roomToWrite (s .drive) (s .tape))
       (λ r. by-test _ (λ _. records-block b w (leb-true _ _ r)) (λ _. records-last b w (leb-true _ _ r)))
-      (λ _. halts (Give b) Eom))
+      (λ _. drops-block b))
 
   handed-does : (n : ℕ) → n ≤ 511 → (n ≡ 511 → s .port .phase ≡ Giving 511) → s .drive .mode ≡ Reading → foundAt (s .tape) (s .drive .head) ≡ Block → Does g s Take (handed s n)
   unfolding handed
@@ -175,7 +177,7 @@ module _ (g : List ℕ) (s : Seat) (ok : SoundSeat s) where
       let p = both (leb n 511) (isReading (s .drive .mode)) (both (leb 1 n) _ k .1) in
       by-test (isBlock (foundAt (s .tape) (s .drive .head)))
       (λ r. handed-does n (leb-true n 511 (p .0)) (λ z. e ∙ ap Giving z) (reading-is (s .drive .mode) (p .1)) (block-is _ r))
-      (λ _. halts Take Ude)
+      (λ _. finds-no-block)
   took-does (Status j) e k h = hands-octet j e
 
   leaving-does : (m : Mode) → s .drive .mode ≡ m → Does g s Offline (leaving s m)
@@ -187,12 +189,12 @@ module _ (g : List ℕ) (s : Seat) (ok : SoundSeat s) where
   unfolding dropped
   dropped-does =
       by-test (s .port .online)
-      (λ _. by-test (s .drive .exception) (λ _. goes-idle) (λ _. by-test (s .drive .loaded) (λ _. leaving-does _ refl) (λ _. levels Offline false)))
-      (λ _. levels Offline false)
+      (λ _. by-test (s .drive .exception) (λ _. goes-idle) (λ _. by-test (s .drive .loaded) (λ _. leaving-does _ refl) (λ _. goes-down)))
+      (λ _. goes-down)
 
   pub act-does : (a : Act) → inStepAt (s .port .phase) (s .drive) a ≡ true → Does g s a (act g s a)
   act-does (Command c) h = commanded-does c (orderOf c) refl _ refl
   act-does (Give b) h = gave-does b (givenBefore (s .port .phase)) (taking-writing (s .port .phase) (s .drive) h)
   act-does Take h = took-does (s .port .phase) refl (ok .phase) h
-  act-does Online h = levels Online true
+  act-does Online h = goes-up
   act-does Offline h = dropped-does

@@ -9,19 +9,6 @@ both false b h = (cc, cc)
 pub join : (a b : Bool) → a ≡ true → b ≡ true → (a && b) ≡ true
 join a b p q = rw (p, q)
 
-pub neither : (a b : Bool) → (a || b) ≡ false → (a ≡ false) × (b ≡ false)
-neither true b h = (cc, cc)
-neither false b h = (refl, h)
-
--- a test that a condition asks for
-pub unasked : (a b : Bool) → (a && b) ≡ false → a ≡ true → b ≡ false
-unasked true b h e = h
-unasked false b h e = cc
-
 pub not-not : (b : Bool) → not b ≡ false → b ≡ true
 not-not true h = refl
 not-not false h = cc
-
-pub not-is : (b : Bool) → not b ≡ true → b ≡ false
-not-is true h = cc
-not-is false h = refl

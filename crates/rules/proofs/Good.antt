@@ -35,7 +35,7 @@ use Rattle.rules.specs.Refusal.{longest, modeFits, possiblePhase}
 use Rattle.rules.specs.Edge.{halted, edged, checked, searched}
 use Rattle.rules.specs.Effect.{Seat, Acted, leaves, resting}
 use Rattle.rules.specs.Bytes.{afterOctet}
-use Rattle.rules.proofs.Bools.{both, join}
+use Rattle.rules.proofs.Bools.{both, join, not-not}
 use Rattle.rules.proofs.Sound.{Fit, SoundSeat, idle-fits}
 use Rattle.rules.proofs.Acts
 
@@ -146,22 +146,25 @@ module _ (g : List ℕ) (w512 : length g ≡ 512) (s : Seat) (ok : SoundSeat s) 
 
   pub does-good : (a : Act) (m : Acted) → Acts.Does g s a m → Good s m
   does-good a m (Acts.nothing c) = quiet m refl refl refl (ok .fit)
-  does-good a m (Acts.selects c n l e) = record { fit = ok .fit; long = refl; land = rests refl l; plug = λ _. refl }
+  does-good a m (Acts.selects c n l e) = record { fit = record { near = ok .fit .near; mode = ok .fit .mode }; long = refl; land = rests refl l; plug = λ _. refl }
   does-good a m (Acts.rewinds c) = quiet m refl refl refl (fit-head (s .drive) 0 (ok .fit) zero-le)
   does-good a m (Acts.erases p) =
-      record { fit = fit-head (s .drive) 0 (ok .fit) zero-le; long = length-replicate _ _; land = rests refl (ok .sel); plug = λ q. absurd (true≢false (sym q ∙ p)) }
-  does-good a m (Acts.sets-writing c o p) =
-      quiet m refl refl refl (record { near = ok .fit .near; mode = join (s .drive .loaded) (not (s .drive .protected)) o (ap not p) })
-  does-good a m (Acts.records-mark c p r) =
-      mark-good m p r refl refl refl (fit-idle (made (s .drive .head + 1) (s .drive)) (fit-head (s .drive) (s .drive .head + 1) (ok .fit) (omega (arith, r, ok .near))))
-  does-good a m (Acts.sets-reading c o) =
-      quiet m refl refl refl (checked-fit (s .tape) (inMode Reading (s .drive)) (ok .near) (record { near = ok .fit .near; mode = o }))
+      record { fit = fit-head (s .drive) 0 (ok .fit) zero-le; long = length-replicate _ _; land = rests refl (ok .sel); plug = λ q. absurd (true≢false (sym q ∙ p .plug)) }
+  does-good a m (Acts.sets-writing c p) =
+      quiet m refl refl refl (record { near = ok .fit .near; mode = join (s .drive .loaded) (not (s .drive .protected)) (not-not (s .drive .loaded) (p .cartridge)) (ap not (p .plug)) })
+  does-good a m (Acts.records-mark c p) =
+      let r : s .drive .head + 1 ≤ length (s .tape) = leb-true _ _ (p .room) in
+      mark-good m (p .plug) r refl refl refl (fit-idle (made (s .drive .head + 1) (s .drive)) (fit-head (s .drive) (s .drive .head + 1) (ok .fit) (omega (arith, ok .near))))
+  does-good a m (Acts.sets-reading c p) =
+      quiet m refl refl refl (checked-fit (s .tape) (inMode Reading (s .drive)) (ok .near) (record { near = ok .fit .near; mode = not-not (s .drive .loaded) (p .cartridge) }))
   does-good a m (Acts.searches c) =
       quiet m refl refl refl (searched-fit (passed (s .tape) (s .drive .head)) (s .drive) (ok .fit) (passed-within (s .tape) (s .drive .head) longest (ok .near) (ok .fit .near)))
   does-good a m Acts.reports = record { fit = record { near = ok .fit .near; mode = ok .fit .mode }; long = refl; land = stays refl (six-fit (s .drive .mode)); plug = λ _. refl }
   does-good a m (Acts.faults c b) = quiet m refl refl refl (record { near = ok .fit .near; mode = ok .fit .mode })
   does-good a m (Acts.meets-plug c) = quiet m refl refl refl (record { near = ok .fit .near; mode = ok .fit .mode })
-  does-good a m (Acts.halts x b) = quiet m refl refl refl (fit-stop b (s .drive) (ok .fit))
+  does-good a m (Acts.finds-no-room c) = quiet m refl refl refl (fit-stop Eom (s .drive) (ok .fit))
+  does-good a m (Acts.drops-block b) = quiet m refl refl refl (fit-stop Eom (s .drive) (ok .fit))
+  does-good a m Acts.finds-no-block = quiet m refl refl refl (fit-stop Ude (s .drive) (ok .fit))
   does-good a m (Acts.stages b n l w) =
       record { fit = ok .fit; long = refl; land = stays refl (taking-fits n (s .drive .mode) l w); plug = λ _. refl }
   does-good a m (Acts.records-block b w r) = block-good m w r refl refl refl (fit-block r)
@@ -174,7 +177,8 @@ module _ (g : List ℕ) (w512 : length g ≡ 512) (s : Seat) (ok : SoundSeat s) 
       quiet m refl refl refl
       (checked-fit (s .tape) _ (ok .near) (fit-head (s .drive) (s .drive .head + 513) (ok .fit) (omega (arith, block-fits (s .tape) (s .drive .head) e, ok .near))))
   does-good a m (Acts.meets-edge r) = quiet m refl refl refl (checked-fit (s .tape) (s .drive) (ok .near) (ok .fit))
-  does-good a m (Acts.levels x b) = quiet m refl refl refl (ok .fit)
+  does-good a m Acts.goes-up = quiet m refl refl refl (ok .fit)
+  does-good a m Acts.goes-down = quiet m refl refl refl (ok .fit)
   does-good a m Acts.goes-idle = quiet m refl refl refl (fit-idle (s .drive) (ok .fit))
   does-good a m Acts.goes-home = quiet m refl refl refl (fit-head (inMode Idle (s .drive)) 0 (fit-idle (s .drive) (ok .fit)) zero-le)
   does-good a m (Acts.leaves-mark w r) =

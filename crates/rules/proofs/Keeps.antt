@@ -136,6 +136,10 @@ effect-sound c l (Own a) k r h =
     let k2 = staged-sound c l a k in
     landed-sound c (stagedIn c a l) _ k2 (Good.does-good (stagedIn c a l .staging) (k2 .whole) (seatOf c l) (sound-seat c l k) a _ (own-does c l a k h))
 
+pub step-stays-sound : (c : Core) (l : Lent) (event : List ℕ) → Sound c l → Sound (stepOf c l event .turn .core) (stepOf c l event .lent)
+step-stays-sound c l event k =
+    sound-step (λ s. Sound (s .turn .core) (s .lent)) c l event (k .whole) (λ _. k) (λ k h. effect-sound c l (eventOf event) k (named-real event) h)
+
 pub stays-possible : StaysPossible
 stays-possible c l event w p =
     sound-step (λ r. possible (r .turn .core) ≡ true) c l event w (λ _. p)

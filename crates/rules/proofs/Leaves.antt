@@ -5,6 +5,7 @@ use mathlib.Core.Bool.{Bool, true, false, not, false≢true, true≢false}
 use mathlib.Core.List.{List}
 use native.Mathlib.Omega.{arith}
 use lib.ListN.{length}
+use borrow.Author.Tests.{leb-true}
 use Rattle.tape.specs.declared.found.Found.{Found}
 use Rattle.tape.specs.declared.found.Found.the-variants.{Block, Mark, Stop}
 use Rattle.tape.specs.declared.found.Why.{Why}
@@ -118,14 +119,16 @@ module _ (g : List ℕ) (s : Seat) where
   does-held a m (Acts.selects c k l e) u n = u
   does-held a m (Acts.rewinds c) u n = u
   does-held a m (Acts.erases p) u n = u
-  does-held a m (Acts.sets-writing c o p) u n = u
-  does-held a m (Acts.records-mark c p r) u n = u
-  does-held a m (Acts.sets-reading c o) u n = checked-held (s .tape) (inMode Reading (s .drive)) u
+  does-held a m (Acts.sets-writing c p) u n = u
+  does-held a m (Acts.records-mark c p) u n = u
+  does-held a m (Acts.sets-reading c p) u n = checked-held (s .tape) (inMode Reading (s .drive)) u
   does-held a m (Acts.searches c) u n = searched-up (passed (s .tape) (s .drive .head)) (s .drive)
   does-held a m Acts.reports u n = absurd (n refl)
   does-held a m (Acts.faults c b) u n = refl
   does-held a m (Acts.meets-plug c) u n = refl
-  does-held a m (Acts.halts x b) u n = refl
+  does-held a m (Acts.finds-no-room c) u n = refl
+  does-held a m (Acts.drops-block b) u n = refl
+  does-held a m Acts.finds-no-block u n = refl
   does-held a m (Acts.stages b k l w) u n = u
   does-held a m (Acts.records-block b w r) u n = u
   does-held a m (Acts.records-last b w r) u n = refl
@@ -133,7 +136,8 @@ module _ (g : List ℕ) (s : Seat) where
   does-held a m (Acts.hands-byte k l w e) u n = u
   does-held a m (Acts.hands-last q w e) u n = checked-held (s .tape) (passedTo (s .drive .head + 513) (s .drive)) u
   does-held a m (Acts.meets-edge r) u n = checked-held (s .tape) (s .drive) u
-  does-held a m (Acts.levels x b) u n = u
+  does-held a m Acts.goes-up u n = u
+  does-held a m Acts.goes-down u n = u
   does-held a m Acts.goes-idle u n = u
   does-held a m Acts.goes-home u n = u
   does-held a m (Acts.leaves-mark w r) u n = u
@@ -145,14 +149,16 @@ module _ (g : List ℕ) (s : Seat) where
   does-raise a m (Acts.selects c k l e) h = absurd (false≢true h)
   does-raise a m (Acts.rewinds c) h = absurd (false≢true h)
   does-raise a m (Acts.erases p) h = absurd (false≢true h)
-  does-raise a m (Acts.sets-writing c o p) h = absurd (false≢true h)
-  does-raise a m (Acts.records-mark c p r) h = absurd (false≢true h)
-  does-raise a m (Acts.sets-reading c o) h = checked-up (s .tape) (inMode Reading (s .drive)) h
+  does-raise a m (Acts.sets-writing c p) h = absurd (false≢true h)
+  does-raise a m (Acts.records-mark c p) h = absurd (false≢true h)
+  does-raise a m (Acts.sets-reading c p) h = checked-up (s .tape) (inMode Reading (s .drive)) h
   does-raise a m (Acts.searches c) h = searched-up (passed (s .tape) (s .drive .head)) (s .drive)
   does-raise a m Acts.reports h = absurd (false≢true h)
   does-raise a m (Acts.faults c b) h = refl
   does-raise a m (Acts.meets-plug c) h = refl
-  does-raise a m (Acts.halts x b) h = refl
+  does-raise a m (Acts.finds-no-room c) h = refl
+  does-raise a m (Acts.drops-block b) h = refl
+  does-raise a m Acts.finds-no-block h = refl
   does-raise a m (Acts.stages b k l w) h = absurd (false≢true h)
   does-raise a m (Acts.records-block b w r) h = absurd (false≢true h)
   does-raise a m (Acts.records-last b w r) h = refl
@@ -160,7 +166,8 @@ module _ (g : List ℕ) (s : Seat) where
   does-raise a m (Acts.hands-byte k l w e) h = absurd (false≢true h)
   does-raise a m (Acts.hands-last q w e) h = checked-up (s .tape) (passedTo (s .drive .head + 513) (s .drive)) h
   does-raise a m (Acts.meets-edge r) h = checked-up (s .tape) (s .drive) r
-  does-raise a m (Acts.levels x b) h = absurd (false≢true h)
+  does-raise a m Acts.goes-up h = absurd (false≢true h)
+  does-raise a m Acts.goes-down h = absurd (false≢true h)
   does-raise a m Acts.goes-idle h = absurd (false≢true h)
   does-raise a m Acts.goes-home h = absurd (false≢true h)
   does-raise a m (Acts.leaves-mark w r) h = absurd (false≢true h)
@@ -172,14 +179,16 @@ module _ (g : List ℕ) (s : Seat) where
   does-quiet a m (Acts.selects c k l e) h u = u
   does-quiet a m (Acts.rewinds c) h u = u
   does-quiet a m (Acts.erases p) h u = u
-  does-quiet a m (Acts.sets-writing c o p) h u = u
-  does-quiet a m (Acts.records-mark c p r) h u = u
-  does-quiet a m (Acts.sets-reading c o) h u = rw (checked-same (s .tape) (inMode Reading (s .drive)) h) at u
+  does-quiet a m (Acts.sets-writing c p) h u = u
+  does-quiet a m (Acts.records-mark c p) h u = u
+  does-quiet a m (Acts.sets-reading c p) h u = rw (checked-same (s .tape) (inMode Reading (s .drive)) h) at u
   does-quiet a m (Acts.searches c) h u = absurd (true≢false h)
   does-quiet a m Acts.reports h u = absurd (false≢true u)
   does-quiet a m (Acts.faults c b) h u = absurd (true≢false h)
   does-quiet a m (Acts.meets-plug c) h u = absurd (true≢false h)
-  does-quiet a m (Acts.halts x b) h u = absurd (true≢false h)
+  does-quiet a m (Acts.finds-no-room c) h u = absurd (true≢false h)
+  does-quiet a m (Acts.drops-block b) h u = absurd (true≢false h)
+  does-quiet a m Acts.finds-no-block h u = absurd (true≢false h)
   does-quiet a m (Acts.stages b k l w) h u = u
   does-quiet a m (Acts.records-block b w r) h u = u
   does-quiet a m (Acts.records-last b w r) h u = absurd (true≢false h)
@@ -187,7 +196,8 @@ module _ (g : List ℕ) (s : Seat) where
   does-quiet a m (Acts.hands-byte k l w e) h u = u
   does-quiet a m (Acts.hands-last q w e) h u = rw (checked-same (s .tape) (passedTo (s .drive .head + 513) (s .drive)) h) at u
   does-quiet a m (Acts.meets-edge r) h u = absurd (true≢false h)
-  does-quiet a m (Acts.levels x b) h u = u
+  does-quiet a m Acts.goes-up h u = u
+  does-quiet a m Acts.goes-down h u = u
   does-quiet a m Acts.goes-idle h u = u
   does-quiet a m Acts.goes-home h u = u
   does-quiet a m (Acts.leaves-mark w r) h u = u
@@ -199,15 +209,17 @@ module _ (g : List ℕ) (s : Seat) where
   does-report a m (Acts.selects c k l e) n = report-same (s .drive) _ refl refl refl
   does-report a m (Acts.rewinds c) n = report-same (s .drive) _ refl refl refl
   does-report a m (Acts.erases p) n = report-same (s .drive) _ refl refl refl
-  does-report a m (Acts.sets-writing c o p) n = report-same (s .drive) _ refl refl refl
-  does-report a m (Acts.records-mark c p r) n = report-same (s .drive) _ refl refl refl
-  does-report a m (Acts.sets-reading c o) n =
+  does-report a m (Acts.sets-writing c p) n = report-same (s .drive) _ refl refl refl
+  does-report a m (Acts.records-mark c p) n = report-same (s .drive) _ refl refl refl
+  does-report a m (Acts.sets-reading c p) n =
       report-then (s .drive) (inMode Reading (s .drive)) _ refl refl refl (checked-report (s .tape) (inMode Reading (s .drive)))
   does-report a m (Acts.searches c) n = searched-report (passed (s .tape) (s .drive .head)) (s .drive)
   does-report a m Acts.reports n = absurd (n refl)
   does-report a m (Acts.faults c b) n = report-more (s .drive) _ b refl refl refl
   does-report a m (Acts.meets-plug c) n = report-same (s .drive) _ refl refl refl
-  does-report a m (Acts.halts x b) n = report-more (s .drive) _ b refl refl refl
+  does-report a m (Acts.finds-no-room c) n = report-more (s .drive) _ Eom refl refl refl
+  does-report a m (Acts.drops-block b) n = report-more (s .drive) _ Eom refl refl refl
+  does-report a m Acts.finds-no-block n = report-more (s .drive) _ Ude refl refl refl
   does-report a m (Acts.stages b k l w) n = report-same (s .drive) _ refl refl refl
   does-report a m (Acts.records-block b w r) n = report-same (s .drive) _ refl refl refl
   does-report a m (Acts.records-last b w r) n = report-more (s .drive) _ Eom refl refl refl
@@ -216,7 +228,8 @@ module _ (g : List ℕ) (s : Seat) where
   does-report a m (Acts.hands-last q w e) n =
       report-then (s .drive) (passedTo (s .drive .head + 513) (s .drive)) _ refl refl refl (checked-report (s .tape) (passedTo (s .drive .head + 513) (s .drive)))
   does-report a m (Acts.meets-edge r) n = checked-report (s .tape) (s .drive)
-  does-report a m (Acts.levels x b) n = report-same (s .drive) _ refl refl refl
+  does-report a m Acts.goes-up n = report-same (s .drive) _ refl refl refl
+  does-report a m Acts.goes-down n = report-same (s .drive) _ refl refl refl
   does-report a m Acts.goes-idle n = report-same (s .drive) _ refl refl refl
   does-report a m Acts.goes-home n = report-same (s .drive) _ refl refl refl
   does-report a m (Acts.leaves-mark w r) n = report-same (s .drive) _ refl refl refl
@@ -228,14 +241,16 @@ module _ (g : List ℕ) (s : Seat) where
   does-change a m (Acts.selects c k l e) w = unchanged
   does-change a m (Acts.rewinds c) w = unchanged
   does-change a m (Acts.erases p) w = erasedWhole refl
-  does-change a m (Acts.sets-writing c o p) w = unchanged
-  does-change a m (Acts.records-mark c p r) w = markMade r
-  does-change a m (Acts.sets-reading c o) w = unchanged
+  does-change a m (Acts.sets-writing c p) w = unchanged
+  does-change a m (Acts.records-mark c p) w = markMade (leb-true _ _ (p .room))
+  does-change a m (Acts.sets-reading c p) w = unchanged
   does-change a m (Acts.searches c) w = unchanged
   does-change a m Acts.reports w = unchanged
   does-change a m (Acts.faults c b) w = unchanged
   does-change a m (Acts.meets-plug c) w = unchanged
-  does-change a m (Acts.halts x b) w = unchanged
+  does-change a m (Acts.finds-no-room c) w = unchanged
+  does-change a m (Acts.drops-block b) w = unchanged
+  does-change a m Acts.finds-no-block w = unchanged
   does-change a m (Acts.stages b k l q) w = unchanged
   does-change a m (Acts.records-block b q r) w = blockMade g w (omega (arith, r))
   does-change a m (Acts.records-last b q r) w = blockMade g w (omega (arith, r))
@@ -243,7 +258,8 @@ module _ (g : List ℕ) (s : Seat) where
   does-change a m (Acts.hands-byte k l q e) w = unchanged
   does-change a m (Acts.hands-last p q e) w = unchanged
   does-change a m (Acts.meets-edge r) w = unchanged
-  does-change a m (Acts.levels x b) w = unchanged
+  does-change a m Acts.goes-up w = unchanged
+  does-change a m Acts.goes-down w = unchanged
   does-change a m Acts.goes-idle w = unchanged
   does-change a m Acts.goes-home w = unchanged
   does-change a m (Acts.leaves-mark q r) w = markMade r
@@ -263,14 +279,16 @@ module _ (g : List ℕ) (s : Seat) where
   does-byte a m (Acts.selects c k l e) = none a m refl refl
   does-byte a m (Acts.rewinds c) = none a m refl refl
   does-byte a m (Acts.erases p) = none a m refl refl
-  does-byte a m (Acts.sets-writing c o p) = none a m refl refl
-  does-byte a m (Acts.records-mark c p r) = none a m refl refl
-  does-byte a m (Acts.sets-reading c o) = none a m refl refl
+  does-byte a m (Acts.sets-writing c p) = none a m refl refl
+  does-byte a m (Acts.records-mark c p) = none a m refl refl
+  does-byte a m (Acts.sets-reading c p) = none a m refl refl
   does-byte a m (Acts.searches c) = none a m refl refl
   does-byte a m Acts.reports = none a m refl refl
   does-byte a m (Acts.faults c b) = none a m refl refl
   does-byte a m (Acts.meets-plug c) = none a m refl refl
-  does-byte a m (Acts.halts x b) = none a m refl refl
+  does-byte a m (Acts.finds-no-room c) = none a m refl refl
+  does-byte a m (Acts.drops-block b) = none a m refl refl
+  does-byte a m Acts.finds-no-block = none a m refl refl
   does-byte a m (Acts.stages b k l w) = none a m refl refl
   does-byte a m (Acts.records-block b w r) = none a m refl refl
   does-byte a m (Acts.records-last b w r) = none a m refl refl
@@ -278,7 +296,8 @@ module _ (g : List ℕ) (s : Seat) where
   does-byte a m (Acts.hands-byte k l w e) = record { absent = λ h. absurd (true≢false h); taken = λ _. refl; last = λ _ h. absurd (false≢true h) }
   does-byte a m (Acts.hands-last q w e) = record { absent = λ h. absurd (true≢false h); taken = λ _. refl; last = λ _ _. q }
   does-byte a m (Acts.meets-edge r) = none a m refl refl
-  does-byte a m (Acts.levels x b) = none a m refl refl
+  does-byte a m Acts.goes-up = none a m refl refl
+  does-byte a m Acts.goes-down = none a m refl refl
   does-byte a m Acts.goes-idle = none a m refl refl
   does-byte a m Acts.goes-home = none a m refl refl
   does-byte a m (Acts.leaves-mark w r) = none a m refl refl

@@ -15,3 +15,8 @@ pub mod Plug
 pub mod Outcomes
 pub mod Runs
 pub mod Wrong
+pub mod Sight
+pub mod Agree
+pub mod Ports
+pub mod Sim
+pub mod Demand3

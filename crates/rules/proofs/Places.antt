@@ -54,6 +54,13 @@ put-other x a b c d fourth second h = refl
 put-other x a b c d fourth third h = refl
 put-other x a b c d fourth fourth h = absurd (h refl)
 
+-- The same two, by an equation of the numbers and by their bounds.
+pub put-there : {A : Type 0} (i n : ℕ) (x a b c d : A) → n ≡ i → oneOf i (putAt 0 n x a) (putAt 1 n x b) (putAt 2 n x c) (putLast n x d) ≡ x
+put-there i n x a b c d e = rw (e, put-same)
+
+pub put-away : {A : Type 0} (i n : ℕ) (x a b c d : A) → i ≤ 3 → n ≤ 3 → (n ≡ i → ⊥) → oneOf i (putAt 0 n x a) (putAt 1 n x b) (putAt 2 n x c) (putLast n x d) ≡ oneOf i a b c d
+put-away i n x a b c d hi hn e = put-other x a b c d (four n hn) (four i hi) e
+
 -- What holds of each of four holds of the one got; and of each of four after one was put, if it holds of that one.
 pub one-holds : {A : Type 0} (P : A → Type 0) {a b c d : A} → P a → P b → P c → P d → (j : ℕ) → P (oneOf j a b c d)
 unfolding pick oneOf

@@ -20,7 +20,7 @@ use Rattle.rules.specs.Refusal.{possible, short, inStepAt, slotFits, ref
 use Rattle.rules.specs.Effect.{Acted}
 use Rattle.rules.specs.Bytes.{stagedByte}
 use Rattle.rules.specs.Step.{Stepped, act, staged, stagedIn, seatOf, refused, effectOf, settled, stepBy, stepOf}
-use Rattle.rules.proofs.Sound.{Sound, SoundSeat, sound, sound-seat}
+use Rattle.rules.proofs.Sound.{Sound, sound, sound-seat, sound-possible, sound-short}
 use Rattle.rules.proofs.Acts.{Does, act-does}
 
 -- nothing refuses: then the act is in step, and the slot is as the event asks
@@ -95,3 +95,8 @@ staged-sound c l a k =
 pub own-does : (c : Core) (l : Lent) (a : Act) → Sound c l → refusalIn c (Own a) ≡ Taken
     → Does (stagedIn c a l .staging) (seatOf c l) a (act (stagedIn c a l .staging) (seatOf c l) a)
 own-does c l a k h = act-does (stagedIn c a l .staging) (seatOf c l) (sound-seat c l k) a (in-step _ h)
+
+-- in a sound world the step is what the event's own refusal leaves
+pub step-is : (c : Core) (l : Lent) (event : List ℕ) → Sound c l → stepOf c l event ≡ settled c l (eventOf event) (refusalIn c (eventOf event))
+unfolding pick stepOf stepBy refusalOf
+step-is c l event k = rw (sound-possible c l k, sound-short c l k)

@@ -149,8 +149,7 @@ marks c l =
 
 -- an Idle drive records nothing when ONLINE drops
 idle-keeps : (g : List ℕ) (s : Seat) (m : Acted) → Acts.Does g s Offline m → s .drive .mode ≡ Idle → m .tape ≡ s .tape
-idle-keeps g s m (Acts.halts x b) i = refl
-idle-keeps g s m (Acts.levels x b) i = refl
+idle-keeps g s m Acts.goes-down i = refl
 idle-keeps g s m Acts.goes-idle i = refl
 idle-keeps g s m Acts.goes-home i = refl
 idle-keeps g s m (Acts.leaves-mark w r) i = cc

@@ -5,8 +5,7 @@ use mathlib.Core.List.{List}
 use lib.ListN.{length, getD, set}
 use lib.Dec.{ltb, leb}
 use Rattle.tape.specs.Choice.{pick}
-use Rattle.tape.specs.Record.{foundAt, blockSize, blockRecord}
-use Rattle.tape.specs.Recording.{recorded}
+use Rattle.tape.specs.Record.{foundAt, blockSize}
 use Rattle.rules.specs.declared.drive.Drive.{Drive}
 use Rattle.rules.specs.declared.drive.Bit.the-variants.{Eom, Ude}
 use Rattle.rules.specs.declared.unit.Port.{Port}
@@ -17,7 +16,7 @@ use Rattle.rules.specs.Drive.{stopping, made, passedTo}
 use Rattle.rules.specs.Unit.{atPhase}
 use Rattle.rules.specs.Order.{writeRoom}
 use Rattle.rules.specs.Edge.{isBlock, checked}
-use Rattle.rules.specs.Effect.{Seat, Acted, leaves, hands, resting}
+use Rattle.rules.specs.Effect.{Seat, Acted, leaves, hands, withBlock, resting}
 
 -- How many bytes of a block were given before.
 abbrev pub givenBefore : Phase → ℕ
@@ -45,7 +44,7 @@ afterBlock p d t = pick (roomToWrite d t) (leaves false p d t) (leaves true p (s
 unfoldable pub stored : List ℕ → Port → Drive → List ℕ → Acted
 stored g p d t =
     pick (roomToWrite d t)
-    (afterBlock p (made (d .head + blockSize) d) (recorded t (d .head) (blockRecord g)))
+    (afterBlock p (made (d .head + blockSize) d) (withBlock g d t))
     (leaves true p (stopping Eom d) t)
 
 -- A byte given where n were given before, and g is the staging block with the byte in it. No tape byte changes before the 512th.

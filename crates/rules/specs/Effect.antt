@@ -3,7 +3,7 @@ use Prim.Native.Nat.{ℕ, _+_}
 use mathlib.Core.Bool.{Bool, true, false}
 use mathlib.Core.List.{List}
 use lib.ListN.{length}
-use Rattle.tape.specs.Record.{markSize, markRecord}
+use Rattle.tape.specs.Record.{markSize, markRecord, blockRecord}
 use Rattle.tape.specs.Recording.{recorded, erased}
 use Rattle.tape.specs.Walk.{passed}
 use Rattle.rules.specs.declared.drive.Drive.{Drive}
@@ -47,6 +47,13 @@ leaves r p d t = acted (record { raised = r; given = false; byte = 0; port = p; 
 abbrev pub hands : Bool → ℕ → Port → Drive → List ℕ → Acted
 hands r b p d t = acted (record { raised = r; given = true; byte = b; port = p; drive = d }) t
 
+-- Recording puts the record at the head.
+abbrev pub withMark : Drive → List ℕ → List ℕ
+withMark d t = recorded t (d .head) markRecord
+
+abbrev pub withBlock : List ℕ → Drive → List ℕ → List ℕ
+withBlock g d t = recorded t (d .head) (blockRecord g)
+
 -- A command is taken at Rest, so Rest is the phase that stays.
 abbrev pub resting : Seat → Port
 resting s = atPhase Rest (s .port)
@@ -63,7 +70,7 @@ ordered s Erase = leaves false (resting s) (rewound (s .drive)) (erased (s .tape
 ordered s Initialize = leaves false (resting s) (rewound (s .drive)) (s .tape)
 ordered s Write = leaves false (resting s) (inMode Writing (s .drive)) (s .tape)
 ordered s WriteMark =
-    leaves false (resting s) (inMode Idle (made (s .drive .head + markSize) (s .drive))) (recorded (s .tape) (s .drive .head) markRecord)
+    leaves false (resting s) (inMode Idle (made (s .drive .head + markSize) (s .drive))) (withMark (s .drive) (s .tape))
 ordered s Read =
     leaves (checked (s .tape) (inMode Reading (s .drive)) .raised) (resting s) (checked (s .tape) (inMode Reading (s .drive)) .drive) (s .tape)
 ordered s ReadMark = leaves true (resting s) (searched (passed (s .tape) (s .drive .head)) (s .drive)) (s .tape)

@@ -13,5 +13,6 @@ pub mod Online
 pub mod Slot
 pub mod Step
 pub mod Run
+pub mod Reach
 pub mod Tests
 pub mod Promises

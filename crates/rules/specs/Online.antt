@@ -5,8 +5,6 @@ use mathlib.Core.List.{List}
 use lib.ListN.{length}
 use lib.Dec.{leb}
 use Rattle.tape.specs.Choice.{pick}
-use Rattle.tape.specs.Record.{markRecord}
-use Rattle.tape.specs.Recording.{recorded}
 use Rattle.rules.specs.declared.drive.Drive.{Drive}
 use Rattle.rules.specs.declared.drive.Mode.{Mode}
 use Rattle.rules.specs.declared.drive.Mode.the-variants.{Idle, Writing, Reading}
@@ -14,7 +12,7 @@ use Rattle.rules.specs.declared.drive.Bit.the-variants.{Eom}
 use Rattle.rules.specs.Drive.{rewound, stopping, inMode}
 use Rattle.rules.specs.Unit.{atLevel}
 use Rattle.rules.specs.Order.{markRoom}
-use Rattle.rules.specs.Effect.{Seat, Acted, leaves}
+use Rattle.rules.specs.Effect.{Seat, Acted, leaves, withMark}
 
 -- Only the level changes. The line is low, or high, at Rest.
 abbrev pub levelled : Bool → Seat → Acted
@@ -29,7 +27,7 @@ abbrev pub leaving : Seat → Mode → Acted
 leaving s Idle = leftAlone s (s .tape)
 leaving s Writing =
     pick (leb (s .drive .head + markRoom) (length (s .tape)))
-    (leftAlone s (recorded (s .tape) (s .drive .head) markRecord))
+    (leftAlone s (withMark (s .drive) (s .tape)))
     (leaves true (atLevel false (s .port)) (stopping Eom (s .drive)) (s .tape))
 leaving s Reading = leftAlone s (s .tape)
 

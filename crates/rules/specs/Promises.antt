@@ -8,3 +8,4 @@ pub mod Plug
 pub mod Runs
 pub mod Wrong
 pub mod Outcomes
+pub mod Demand3

@@ -28,8 +28,8 @@ walk-more t (suc n) zero h a b = walk-off t (suc n) h (omega arith)
 walk-more t (suc n) (suc m) h a b = go (foundAt t h) refl (λ k p q. walk-more t n m k p q)
   where
     go : (f : Found) → foundAt t h ≡ f → ((k : ℕ) → length t < n + k → length t < m + k → walk t n k ≡ walk t m k) → walk t (suc n) h ≡ walk t (suc m) h
-    go Block e ih = rw (e, walk) (ap (block h) (ih (h + 513) (omega arith) (omega arith)))
-    go Mark e ih = rw (e, walk) (ap (mark h) (ih (h + 1) (omega arith) (omega arith)))
+    go Block e ih = rw (e, walk, ih (h + 513) (omega arith) (omega arith))
+    go Mark e ih = rw (e, walk, ih (h + 1) (omega arith) (omega arith))
     go (Stop w) e ih = rw (e, walk)
 
 pub trail-block : TrailBlock

@@ -1,7 +1,6 @@
 use Rattle.tape.proofs.Parts.{mark-put}
 use lib.ListN.{length-set}
 use mathlib.Core.Path.{_∙_}
-use native.Mathlib.Omega.{arith}
 use borrow.Author.Needs.{needs}
 use Rattle.tape.proofs.record.put_mark.Statement.{statement}
 use Rattle.tape.proofs.record.put_mark.Tie as tie
@@ -14,7 +13,7 @@ end-at-requires : tie.Need-end-at-requires
 end-at-requires c κs = search needs
 
 same-length : tie.Need-same-length
-same-length c = omega (arith, c .before .before .end-at .kept .0, length-set (c .before .before .before .before .before .args .part .now) 0 2)
+same-length c = c .before .before .end-at .kept .0 ∙ simp length-set
 
 returns : tie.Need-returns
 returns c = c .before .before .end-at .ensures ∙ mark-put (c .before .before .before .before .before .args .part .now) (c .before .before .before .before .before .pre)
