@@ -23,7 +23,7 @@ use Rattle.rules.specs.Refusal.{short, refusalIn}
 use Rattle.rules.specs.Bytes.{givenBefore}
 use Rattle.rules.specs.Step.{Stepped, settled, stepOf}
 use Rattle.rules.specs.Run.{World, world, after, run, turnOf, freshWorld}
-use Rattle.rules.specs.Reach.{Reading, realChange, anyLevel, changes, selects, answered, accepted, reachesBy, reaches, Shown, Gave, gaveBy, gave, reached, given}
+use Rattle.rules.specs.Reach.{Reading, realChange, anyLevel, changes, selects, answered, accepted, reachesBy, reaches, Shown, Gave, gaveBy, gave, keptIf, reached, given}
 use Rattle.rules.specs.Promises.Demand3.{Pending, octetsIn, pending, Alike, SameFate, Demand3For, Demand3, Demand3AnyLevel, OthersDoNotMatter}
 use Rattle.rules.proofs.Sound.{Sound, sound}
 use Rattle.rules.proofs.Codes.{named-real}
@@ -112,7 +112,7 @@ unfolding after
 after-sound w e k = step-stays-sound (w .core) (w .lent) e k
 
 follows : (r : Reading) (d : ℕ) → d ≤ 3 → (es : List (List ℕ)) (w : World) → Sound (w .core) (w .lent) → Follows r d w es
-unfolding pick sightRun sightGave
+unfolding sightRun sightGave
 follows r d d3 [] w k = record { ends = refl; tells = refl }
 follows r d d3 (e ∷ es) w k = let x = go (reaches r d w e) refl (follows r d d3 es (after w e) (after-sound w e k)) in record { ends = x .0; tells = x .1 }
   where
@@ -120,7 +120,7 @@ follows r d d3 (e ∷ es) w k = let x = go (reaches r d w e) refl (follows r d d
     rest = reached r d (after w e) es
 
     go : (b : Bool) → reaches r d w e ≡ b → Follows r d (after w e) es
-        → (look d (run (after w e) es) ≡ sightRun d (look d w) (pick b (e ∷ rest) rest)) × (pick b (gave d w e ∷ given r d (after w e) es) (given r d (after w e) es) ≡ sightGave d (look d w) (pick b (e ∷ rest) rest))
+        → (look d (run (after w e) es) ≡ sightRun d (look d w) (keptIf b e rest)) × (keptIf b (gave d w e) (given r d (after w e) es) ≡ sightGave d (look d w) (keptIf b e rest))
     go true h ih =
         let f = follow d d3 w k e r h in
         (ih .ends ∙ ap (λ (v : World). sightRun d v rest) (f .0), ap₂ (λ (x : Gave) (y : List Gave). x ∷ y) (f .1) (ih .tells ∙ ap (λ (v : World). sightGave d v rest) (f .0)))

@@ -17,14 +17,19 @@ use Rattle.rules.specs.Bytes.{stagedByte, afterBlock, stored, handed, oc
 use Rattle.rules.specs.Online.{dropped}
 use Rattle.rules.specs.Step.{stepBy, stepOf}
 use Rattle.rules.specs.Run.{after, turnOf}
+use Rattle.rules.specs.Reach.{reaches}
+use Rattle.rules.specs.Promises.Samples.{Samples}
 use Rattle.rules.specs.Promises.Runs.{StarredRunsHold, RunsToCheckHold}
 
-both-hold : StarredRunsHold × RunsToCheckHold
-unfolding pick ofKind foundAt recorded walk trail counted oneOf putAt putLast bareEvent bodiedEvent eventOf possibleDrive possiblePhase possible short refusalOf linesOf orderOf illegal faultBy checked withTop octet0 octet1 octetsOf faultOf stagedByte afterBlock stored handed octetTaken dropped stepBy stepOf after turnOf
-both-hold = (refl, refl)
+all-hold : StarredRunsHold × RunsToCheckHold × Samples
+unfolding pick ofKind foundAt recorded walk trail counted oneOf putAt putLast bareEvent bodiedEvent eventOf possibleDrive possiblePhase possible short refusalOf linesOf orderOf illegal faultBy checked withTop octet0 octet1 octetsOf faultOf stagedByte afterBlock stored handed octetTaken dropped stepBy stepOf after turnOf reaches
+all-hold = (refl, refl, record { plain = refl; busy = refl; busyTape = refl; shorter = refl; shorterTape = refl })
 
 pub starred-runs-hold : StarredRunsHold
-starred-runs-hold = both-hold .0
+starred-runs-hold = all-hold .0
 
 pub runs-to-check-hold : RunsToCheckHold
-runs-to-check-hold = both-hold .1
+runs-to-check-hold = all-hold .1
+
+pub samples : Samples
+samples = all-hold .2

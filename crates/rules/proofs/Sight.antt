@@ -148,10 +148,10 @@ look-tape d w = rw put-same
 
 pub place-below : (ph : Phase) (m : Mode) → possiblePhase ph m ≡ true → givenBefore ph ≤ 511
 unfolding possiblePhase
-place-below Rest m h = zero-le
+place-below Rest m h = omega arith
 place-below (Taking n) m h = leb-true n 511 (both (leb n 511) _ (both (leb 1 n) _ h .1) .0)
-place-below (Giving n) m h = zero-le
-place-below (Status k) m h = zero-le
+place-below (Giving n) m h = omega arith
+place-below (Status k) m h = omega arith
 
 shown-length : (n : ℕ) (g : List ℕ) → n ≤ 511 → length g ≡ 512 → length (shownTo n g) ≡ 512
 unfolding shownTo

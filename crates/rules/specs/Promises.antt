@@ -9,3 +9,4 @@ pub mod Runs
 pub mod Wrong
 pub mod Outcomes
 pub mod Demand3
+pub mod Samples

@@ -106,10 +106,14 @@ unfoldable pub gave : ℕ → World → List ℕ → Gave
 gave d w e = gaveBy d (w .core .port .selected) (eventOf e) (turnOf w e)
 
 -- Over a run: the events that reach drive d, and what it gave at them.
+abbrev pub keptIf : {A : Type 0} → Bool → A → List A → List A
+keptIf true x l = x ∷ l
+keptIf false x l = l
+
 abbrev pub reached : Reading → ℕ → World → List (List ℕ) → List (List ℕ)
 reached r d w [] = []
-reached r d w (e ∷ es) = pick (reaches r d w e) (e ∷ reached r d (after w e) es) (reached r d (after w e) es)
+reached r d w (e ∷ es) = keptIf (reaches r d w e) e (reached r d (after w e) es)
 
 abbrev pub given : Reading → ℕ → World → List (List ℕ) → List Gave
 given r d w [] = []
-given r d w (e ∷ es) = pick (reaches r d w e) (gave d w e ∷ given r d (after w e) es) (given r d (after w e) es)
+given r d w (e ∷ es) = keptIf (reaches r d w e) (gave d w e) (given r d (after w e) es)
