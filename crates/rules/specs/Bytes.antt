@@ -5,7 +5,7 @@ use mathlib.Core.List.{List}
 use lib.ListN.{length, getD, set}
 use lib.Dec.{ltb, leb}
 use Rattle.tape.specs.Choice.{pick}
-use Rattle.tape.specs.Record.{foundAt, blockSize}
+use Rattle.tape.specs.Record.{foundAt, bodySize, blockSize}
 use Rattle.rules.specs.declared.drive.Drive.{Drive}
 use Rattle.rules.specs.declared.drive.Bit.the-variants.{Eom, Ude}
 use Rattle.rules.specs.declared.unit.Port.{Port}
@@ -13,7 +13,7 @@ use Rattle.rules.specs.declared.unit.Phase.{Phase}
 use Rattle.rules.specs.declared.unit.Phase.the-variants.{Rest, Taking, Giving, Status}
 use Rattle.rules.specs.declared.order.Checked.{Checked}
 use Rattle.rules.specs.Drive.{stopping, made, passedTo}
-use Rattle.rules.specs.Unit.{atPhase}
+use Rattle.rules.specs.Unit.{lastPlace, reportSize, atPhase}
 use Rattle.rules.specs.Order.{writeRoom}
 use Rattle.rules.specs.Edge.{isBlock, checked}
 use Rattle.rules.specs.Effect.{Seat, Acted, leaves, hands, withBlock, resting}
@@ -27,7 +27,7 @@ givenBefore (Status k) = 0
 
 -- A byte is staged at place n, counted from 0, where n of the block were given before. The last place is 511.
 abbrev pub placeOf : ℕ → ℕ
-placeOf n = pick (ltb n 511) n 511
+placeOf n = pick (ltb n lastPlace) n lastPlace
 
 unfoldable pub stagedByte : ℕ → ℕ → List ℕ → List ℕ
 stagedByte n b g = set g (placeOf n) b
@@ -50,18 +50,18 @@ stored g p d t =
 -- A byte given where n were given before, and g is the staging block with the byte in it. No tape byte changes before the 512th.
 abbrev pub gave : List ℕ → Seat → ℕ → Acted
 gave g s n =
-    pick (ltb n 511)
+    pick (ltb n lastPlace)
     (leaves false (atPhase (Taking (n + 1)) (s .port)) (s .drive) (s .tape))
     (stored g (resting s) (s .drive) (s .tape))
 
 -- Byte n + 1 of the block at the head is the tape's own at head + 1 + n; the head stays until byte 512.
 -- After byte 512: head past the block, Rest, edge check.
 abbrev pub lastHanded : Seat → Checked → Acted
-lastHanded s c = hands (c .raised) (getD (s .tape) (s .drive .head + 512) 0) (resting s) (c .drive) (s .tape)
+lastHanded s c = hands (c .raised) (getD (s .tape) (s .drive .head + bodySize) 0) (resting s) (c .drive) (s .tape)
 
 unfoldable pub handed : Seat → ℕ → Acted
 handed s n =
-    pick (ltb n 511)
+    pick (ltb n lastPlace)
     (hands false (getD (s .tape) (s .drive .head + 1 + n) 0) (atPhase (Giving (n + 1)) (s .port)) (s .drive) (s .tape))
     (lastHanded s (checked (s .tape) (passedTo (s .drive .head + blockSize) (s .drive))))
 
@@ -75,7 +75,7 @@ nextTaken s n whole = pick whole (handed s n) (leaves true (resting s) (stopping
 
 -- The place of the next octet where k are outstanding, and the phase after it.
 abbrev pub octetPlace : ℕ → ℕ
-octetPlace k = pick (leb k 1) 5 (pick (leb k 6) (6 - k) 0)
+octetPlace k = pick (leb k 1) (reportSize - 1) (pick (leb k reportSize) (reportSize - k) 0)
 
 abbrev pub afterOctet : ℕ → Phase
 afterOctet k = pick (leb k 1) Rest (Status (k - 1))

@@ -3,6 +3,7 @@ use Prim.Native.Nat.{ℕ, _+_}
 use mathlib.Core.Bool.{Bool, true, false, not, _&&_, _||_}
 use lib.Dec.{leb, eqb}
 use Rattle.tape.specs.Choice.{pick}
+use Rattle.tape.specs.Record.{blockSize}
 use Rattle.rules.specs.declared.drive.Drive.{Drive}
 use Rattle.rules.specs.declared.drive.Mode.{Mode}
 use Rattle.rules.specs.declared.drive.Mode.the-variants.{Idle, Writing, Reading}
@@ -28,9 +29,12 @@ orderOf c =
     (pick (eqb c 160) ReadMark
     (pick (eqb c 192) ReadStatus NoOrder)))))))))))
 
--- The room that WRITE needs: a block, and 1028 kept past early warning. The room that a mark needs.
+-- The room that WRITE needs, 1541: a block, and 1028 kept past early warning. The room that a mark needs.
+abbrev pub kept : ℕ
+kept = 1028
+
 abbrev pub writeRoom : ℕ
-writeRoom = 1541
+writeRoom = blockSize + kept
 
 abbrev pub markRoom : ℕ
 markRoom = 1

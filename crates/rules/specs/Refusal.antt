@@ -20,7 +20,7 @@ use Rattle.rules.specs.declared.event.Event.the-variants.{NoEvent, Reset
 use Rattle.rules.specs.declared.answer.Answer.{Answer}
 use Rattle.rules.specs.declared.answer.Answer.the-variants.{Taken, Raised, OutOfStep, WrongSlot, Malformed, Impossible, TooLong}
 use Rattle.rules.specs.Drive.{isWriting, isReading, writes, reads}
-use Rattle.rules.specs.Unit.{Lent, driveAt}
+use Rattle.rules.specs.Unit.{Lent, lastPlace, reportSize, driveAt}
 
 -- The longest tape, and the furthest head.
 abbrev pub longest : ℕ
@@ -39,9 +39,9 @@ possibleDrive d = leb (d .head) longest && modeFits (d .mode) (d .loaded) (d .pr
 -- A place in a block is 1 to 511, octets outstanding are 1 to 6; a part block given needs the selected drive Writing, taken needs it Reading.
 unfoldable pub possiblePhase : Phase → Mode → Bool
 possiblePhase Rest m = true
-possiblePhase (Taking n) m = leb 1 n && (leb n 511 && isWriting m)
-possiblePhase (Giving n) m = leb 1 n && (leb n 511 && isReading m)
-possiblePhase (Status k) m = leb 1 k && leb k 6
+possiblePhase (Taking n) m = leb 1 n && (leb n lastPlace && isWriting m)
+possiblePhase (Giving n) m = leb 1 n && (leb n lastPlace && isReading m)
+possiblePhase (Status k) m = leb 1 k && leb k reportSize
 
 -- A selected drive above 3 is impossible.
 unfoldable pub possible : Core → Bool

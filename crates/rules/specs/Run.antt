@@ -2,6 +2,7 @@
 use Prim.Native.Nat.{ℕ}
 use mathlib.Core.List.{List, [], _∷_}
 use lib.ListN.{replicate}
+use Rattle.tape.specs.Record.{bodySize}
 use Rattle.rules.specs.declared.unit.Core.{Core}
 use Rattle.rules.specs.declared.answer.Turn.{Turn}
 use Rattle.rules.specs.Unit.{Lent, lent, freshCore}
@@ -33,4 +34,4 @@ turns w (e ∷ es) = turnOf w e ∷ turns (after w e) es
 
 -- A fresh unit with the tapes of its four drives.
 abbrev pub freshWorld : List ℕ → List ℕ → List ℕ → List ℕ → World
-freshWorld a b c d = world freshCore (lent (replicate 512 0) a b c d)
+freshWorld a b c d = world freshCore (lent (replicate bodySize 0) a b c d)

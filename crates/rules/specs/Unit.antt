@@ -6,6 +6,7 @@ use mathlib.Core.List.{List}
 use lib.ListN.{length, replicate}
 use lib.Dec.{leb, eqb}
 use Rattle.tape.specs.Choice.{pick}
+use Rattle.tape.specs.Record.{bodySize}
 use Rattle.rules.specs.declared.drive.Drive.{Drive}
 use Rattle.rules.specs.declared.unit.Phase.{Phase}
 use Rattle.rules.specs.declared.unit.Phase.the-variants.{Rest, Taking, Giving, Status}
@@ -25,9 +26,16 @@ pub record Lent : Type 0 where
 abbrev pub lent : List ℕ → List ℕ → List ℕ → List ℕ → List ℕ → Lent
 lent g a b c d = record { staging = g; tape0 = a; tape1 = b; tape2 = c; tape3 = d }
 
+-- The last place of a block, counted from 0; the octets of a report.
+abbrev pub lastPlace : ℕ
+lastPlace = 511
+
+abbrev pub reportSize : ℕ
+reportSize = 6
+
 -- The staging block has 512 bytes, as its type says.
 abbrev pub Whole : Lent → Type 0
-Whole l = length (l .staging) ≡ 512
+Whole l = length (l .staging) ≡ bodySize
 
 -- One of four, by its number; and the k-th of four after x was put at i. A number above 3 means the last.
 unfoldable pub oneOf : {A : Type 0} → ℕ → A → A → A → A → A
@@ -66,17 +74,17 @@ abbrev pub atDrive : ℕ → Port → Port
 atDrive n p = record { selected = n; online = p .online; phase = Rest; octets = p .octets }
 
 abbrev pub showing : List ℕ → Port → Port
-showing octets p = record { selected = p .selected; online = p .online; phase = Status 6; octets = octets }
+showing octets p = record { selected = p .selected; online = p .online; phase = Status reportSize; octets = octets }
 
 -- A fresh unit has drive 0 selected, ONLINE low, phase Rest, staging and octets 0.
 abbrev pub freshPort : Port
-freshPort = record { selected = 0; online = false; phase = Rest; octets = replicate 6 0 }
+freshPort = record { selected = 0; online = false; phase = Rest; octets = replicate reportSize 0 }
 
 abbrev pub freshCore : Core
 freshCore = record { port = freshPort; drive0 = freshDrive; drive1 = freshDrive; drive2 = freshDrive; drive3 = freshDrive }
 
 abbrev pub freshUnit : Unit
-freshUnit = record { core = freshCore; staging = replicate 512 0 }
+freshUnit = record { core = freshCore; staging = replicate bodySize 0 }
 
 -- RESET: drive 0 selected, Rest, each drive reset; the level of ONLINE, the octets and the staging block stay.
 abbrev pub resetPort : Port → Port

@@ -9,7 +9,7 @@ use Rattle.tape.specs.declared.found.Why.{Why}
 use Rattle.tape.specs.declared.found.Why.the-variants.{End, Unknown, Bad}
 use Rattle.tape.specs.declared.record.Made.{Made}
 use Rattle.tape.specs.declared.record.Made.the-variants.{Next, NoRoom}
-use Rattle.tape.specs.Record.{endKind, blockKind, markKind, blockSize, markSize, markRecord, blockRecord, foundAt}
+use Rattle.tape.specs.Record.{endKind, blockKind, markKind, bodySize, blockSize, markSize, markRecord, blockRecord, foundAt}
 use Rattle.tape.specs.Recording.{recorded, written, writtenAt}
 use Rattle.tape.specs.Walk.{Trail, block, mark, stop, trail, startOf, passed, endOf}
 
@@ -59,7 +59,7 @@ MarkFound = (t : List ℕ) (h : ℕ) → h + markSize ≤ length t → foundAt (
 
 abbrev pub BlockFound : Type 0
 BlockFound =
-    (t body : List ℕ) (h : ℕ) → length body ≡ 512 → h + blockSize ≤ length t → foundAt (recorded t h (blockRecord body)) h ≡ Block
+    (t body : List ℕ) (h : ℕ) → length body ≡ bodySize → h + blockSize ≤ length t → foundAt (recorded t h (blockRecord body)) h ≡ Block
 
 -- The three laws of the walk: a block, a mark, and where it stops.
 abbrev pub TrailBlock : Type 0

@@ -21,7 +21,10 @@ blockKind = 1
 abbrev pub markKind : ℕ
 markKind = 2
 
--- A mark is its kind; a block is its kind and its body.
+-- The body of a block. A mark is its kind; a block is its kind and its body.
+abbrev pub bodySize : ℕ
+bodySize = 512
+
 abbrev pub markSize : ℕ
 markSize = 1
 

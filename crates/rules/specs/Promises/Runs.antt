@@ -132,6 +132,8 @@ runsToCheck =
     -- 511 bytes given, then command: answer 2. 512: taken.
     from 2000 0 (writing ++ (giving 511 7 ++ command 192))
     ∷ from 2054 0 (writing ++ (giving 512 7 ++ command 192))
+    -- A later block is recorded like the first.
+    ∷ from 3000 0 (writing ++ (giving 512 7 ++ giving 512 9))
     -- WRITE, RESET: tape same. WRITE, ONLINE dropped: one mark, head 0.
     ∷ from 2000 0 (writing ++ (giving 3 7 ++ reset))
     ∷ from 2000 0 (writing ++ offline)
@@ -152,6 +154,7 @@ abbrev pub endings : List Ending
 endings =
     ends 2 firstReport 0 0 (replicate 2000 0) []
     ∷ ends 0 (0 ∷ 0 ∷ 0 ∷ 0 ∷ 0 ∷ 0 ∷ []) 513 0 (1 ∷ (replicate 512 7 ++ replicate 1541 0)) []
+    ∷ ends 0 firstReport 1026 0 (1 ∷ (replicate 512 7 ++ (1 ∷ (replicate 512 9 ++ replicate 1974 0)))) []
     ∷ ends 1 firstReport 0 0 (replicate 2000 0) []
     ∷ ends 0 firstReport 0 0 (2 ∷ replicate 1999 0) []
     ∷ ends 0 (192 ∷ 136 ∷ 0 ∷ 0 ∷ 0 ∷ 0 ∷ []) 0 0 (replicate 16 0) []

@@ -1,0 +1,6 @@
+pub mod Answers
+mod Octet
+mod Tested
+mod Made
+mod Whole
+mod Level

@@ -1,0 +1,34 @@
+use Rattle.rules.specs.Bytes.{octetTaken}
+use borrow.Author.Needs.{needs}
+use Rattle.port.proofs.taken.take_octet.Statement.{statement}
+use Rattle.port.proofs.taken.take_octet.Tie as tie
+
+octet-place-requires : tie.Need-octet-place-requires
+octet-place-requires c κs = search needs
+
+array-read-hands : tie.Need-array-read-hands
+array-read-hands c = search needs
+
+after-octet-requires : tie.Need-after-octet-requires
+after-octet-requires c κs = search needs
+
+at-phase-requires : tie.Need-at-phase-requires
+at-phase-requires c κs = search needs
+
+hands-requires : tie.Need-hands-requires
+hands-requires c κs = search needs
+
+returns : tie.Need-returns
+unfolding octetTaken
+returns c = λ t. rw (c .hands .ensures, c .before .at-phase .ensures, c .before .before .after-octet .ensures, c .before .before .before .octet-place .ensures .0)
+
+pub take-octet-spec : {M : Type 1} → statement M
+take-octet-spec =
+    tie.close
+    (tie.spec
+    octet-place-requires
+    array-read-hands
+    after-octet-requires
+    at-phase-requires
+    hands-requires
+    returns)

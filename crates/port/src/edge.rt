@@ -1,0 +1,70 @@
+// The edge check, and what passing records comes to.
+ghost use mathlib.Core.Path.{_≡_};
+ghost use Rattle.rules.specs.Edge.{isBlock, halted, checked, searched};
+use rules::Bit;
+use rules::Checked;
+use rules::Drive;
+use tape::Found;
+use tape::MARK_SIZE;
+use tape::Passed;
+use tape::Why;
+use tape::found_at;
+
+pub(crate) fn is_block(found: Found) -> bool
+    ensures { λ r. ⌜ r ≡ isBlock found ⌝ }
+{
+    match found {
+        Found::Block => true,
+        Found::Mark => false,
+        Found::Stop(_) => false,
+    }
+}
+
+// End of data, NDT; a bad record, UDE. The mode becomes Idle.
+fn halt(drive: Drive, why: Why) -> Drive
+    ensures { λ r. ⌜ r ≡ halted why drive ⌝ }
+{
+    match why {
+        Why::End => drive.stop(Bit::Ndt),
+        Why::Unknown => drive.stop(Bit::Ude),
+        Why::Bad => drive.stop(Bit::Ude),
+    }
+}
+
+// At the head: a block, nothing; a mark, FIL and the head moves past it; else as above.
+pub fn check(drive: Drive, tape: &[u8]) -> Checked
+    ensures { λ r. ⌜ r ≡ checked (now (tape .entry)) drive ⌝ }
+{
+    let head = drive.head;
+    let found = found_at(tape, head);
+    match found {
+        Found::Block => Checked {
+            raised: false,
+            drive,
+        },
+        Found::Mark => {
+            let past = drive.pass_to(head + MARK_SIZE).stop(Bit::Fil);
+            Checked {
+                raised: true,
+                drive: past,
+            }
+        }
+        Found::Stop(why) => {
+            let halted = halt(drive, why);
+            Checked {
+                raised: true,
+                drive: halted,
+            }
+        }
+    }
+}
+
+// READ FILE MARK: past the next mark FIL; at end of data or at a bad record as above, head there.
+pub(crate) fn search(drive: Drive, passed: Passed) -> Drive
+    ensures { λ r. ⌜ r ≡ searched passed drive ⌝ }
+{
+    match passed {
+        Passed::Past(at) => drive.pass_to(at).stop(Bit::Fil),
+        Passed::Stopped(at, why) => halt(drive.pass_to(at), why),
+    }
+}

@@ -1,0 +1,26 @@
+// What the selected drive does: the acts of the host on the port, the staging block, its own record and its own tape, and on nothing else.
+mod acts;
+mod edge;
+mod effect;
+mod given;
+mod moved;
+mod online;
+mod order;
+mod report;
+mod taken;
+
+pub use acts::act;
+pub use edge::check;
+pub use effect::command;
+pub use given::give;
+pub use given::stage;
+pub use online::drop_online;
+pub use online::raise_online;
+pub use order::fault_of;
+pub use order::needs_of;
+pub use order::order_of;
+pub use report::octets;
+pub use taken::take;
+
+// The last place of a block's body, counted from 0.
+pub(crate) const LAST: usize = tape::BODY - 1;

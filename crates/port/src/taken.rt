@@ -1,0 +1,116 @@
+// A byte taken by the host.
+ghost use mathlib.Core.Path.{_≡_};
+ghost use mathlib.Core.List.{List};
+ghost use Prim.Native.Nat.{ℕ, _+_, _≤_, _<_};
+ghost use lib.ListN.{length};
+ghost use Rattle.tape.specs.Record.{foundAt, blockSize};
+ghost use Rattle.rules.specs.Edge.{isBlock, checked};
+ghost use Rattle.rules.specs.Effect.{seat, acted};
+ghost use Rattle.rules.specs.Bytes.{handed, firstTaken, nextTaken, octetPlace, afterOctet, octetTaken, took};
+use crate::LAST;
+use crate::edge::check;
+use crate::edge::is_block;
+use crate::moved::hands;
+use crate::moved::leaves;
+use crate::moved::rests;
+use rules::Bit;
+use rules::Drive;
+use rules::Moved;
+use rules::OCTETS;
+use rules::Phase;
+use rules::Port;
+use tape::BLOCK_SIZE;
+use tape::BODY;
+use tape::found_at;
+
+// Byte n + 1 of the whole block at the head: the tape's own. After byte 512: head past the block, Rest, edge check.
+fn hand(port: Port, drive: Drive, tape: &[u8], n: usize) -> Moved
+    requires { ⌜ drive .head + blockSize ≤ length (now tape) ⌝ }
+    ensures { λ r. ⌜ acted r (now (tape .entry)) ≡ handed (seat port drive (now (tape .entry))) n ⌝ }
+{
+    let head = drive.head;
+    if n < LAST {
+        return hands(
+            false,
+            tape[head + 1 + n],
+            port.at_phase(Phase::Giving(n + 1)),
+            drive,
+        );
+    }
+    let past = drive.pass_to(head + BLOCK_SIZE);
+    let edge = check(past, tape);
+    let after = edge.drive;
+    hands(
+        edge.raised,
+        tape[head + BODY],
+        port.at_phase(Phase::Rest),
+        after,
+    )
+}
+
+// At Rest the edge check is repeated first.
+fn take_first(port: Port, drive: Drive, tape: &[u8]) -> Moved
+    ensures { λ r. ⌜ acted r (now (tape .entry)) ≡ firstTaken (seat port drive (now (tape .entry))) (checked (now (tape .entry)) drive) ⌝ }
+{
+    let edge = check(drive, tape);
+    let after = edge.drive;
+    if edge.raised {
+        rests(true, port, after)
+    } else {
+        hand(port, drive, tape, 0)
+    }
+}
+
+// Inside a block UDE, phase Rest, Idle, if the record at the head is no longer a whole block.
+fn take_next(port: Port, drive: Drive, tape: &[u8], n: usize) -> Moved
+    ensures { λ r. ⌜ acted r (now (tape .entry)) ≡ nextTaken (seat port drive (now (tape .entry))) n (isBlock (foundAt (now (tape .entry)) (drive .head))) ⌝ }
+{
+    if is_block(found_at(tape, drive.head)) {
+        hand(port, drive, tape, n)
+    } else {
+        rests(true, port, drive.stop(Bit::Ude))
+    }
+}
+
+// The place of the next octet where k are outstanding.
+fn octet_place(k: usize) -> usize
+    ensures { λ r. ⌜ (r ≡ octetPlace k) × (r < 6) ⌝ }
+{
+    if k <= 1 {
+        return OCTETS - 1;
+    }
+    if k <= OCTETS { OCTETS - k } else { 0 }
+}
+
+// After the sixth, Rest.
+fn after_octet(k: usize) -> Phase
+    ensures { λ r. ⌜ r ≡ afterOctet k ⌝ }
+{
+    if k <= 1 {
+        Phase::Rest
+    } else {
+        Phase::Status(k - 1)
+    }
+}
+
+// The next octet of the report.
+fn take_octet(port: Port, drive: Drive, k: usize) -> Moved
+    ensures { λ r. ⌜ ((t : List ℕ) → acted r t ≡ octetTaken (seat port drive t) k) ⌝ }
+{
+    let octets = port.octets;
+    let i = octet_place(k);
+    hands(false, octets[i], port.at_phase(after_octet(k)), drive)
+}
+
+// At Rest the first byte of a block, inside one its next byte, in Status the next octet.
+pub fn take(port: Port, drive: Drive, tape: &[u8]) -> Moved
+    ensures { λ r. ⌜ acted r (now (tape .entry)) ≡ took (seat port drive (now (tape .entry))) (port .phase) ⌝ }
+{
+    let phase = port.phase;
+    match phase {
+        Phase::Rest => take_first(port, drive, tape),
+        Phase::Taking(_) => leaves(false, port, drive),
+        Phase::Giving(n) => take_next(port, drive, tape, n),
+        Phase::Status(k) => take_octet(port, drive, k),
+    }
+}
