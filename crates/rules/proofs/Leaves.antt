@@ -1,6 +1,6 @@
--- What holds at every leaf of an act: EXCEPTION, the report, the byte, the tape.
+-- What holds at every leaf of an act: EXCEPTION, the report, the tape, the byte.
 use Prim.Native.Nat.{ℕ, _+_, _≤_}
-use mathlib.Core.Path.{_≡_, refl, sym, _∙_}
+use mathlib.Core.Path.{_≡_, refl, sym, ap, _∙_}
 use mathlib.Core.Bool.{Bool, true, false, not, false≢true, true≢false}
 use mathlib.Core.List.{List}
 use native.Mathlib.Omega.{arith}
@@ -113,192 +113,117 @@ checked-report t d = edged-report (foundAt t (d .head)) d
 -- ---- each leaf
 
 module _ (g : List ℕ) (s : Seat) where
-  -- a drive whose EXCEPTION is up keeps it, but by READ STATUS
-  pub does-held : (a : Act) (m : Acted) → Acts.Does g s a m → s .drive .exception ≡ true → (a ≡ Command 192 → ⊥) → m .moved .drive .exception ≡ true
-  does-held a m (Acts.nothing c) u n = u
-  does-held a m (Acts.selects c k l e) u n = u
-  does-held a m (Acts.rewinds c) u n = u
-  does-held a m (Acts.erases p) u n = u
-  does-held a m (Acts.sets-writing c p) u n = u
-  does-held a m (Acts.records-mark c p) u n = u
-  does-held a m (Acts.sets-reading c p) u n = checked-held (s .tape) (inMode Reading (s .drive)) u
-  does-held a m (Acts.searches c) u n = searched-up (passed (s .tape) (s .drive .head)) (s .drive)
-  does-held a m Acts.reports u n = absurd (n refl)
-  does-held a m (Acts.faults c b) u n = refl
-  does-held a m (Acts.meets-plug c) u n = refl
-  does-held a m (Acts.finds-no-room c) u n = refl
-  does-held a m (Acts.drops-block b) u n = refl
-  does-held a m Acts.finds-no-block u n = refl
-  does-held a m (Acts.stages b k l w) u n = u
-  does-held a m (Acts.records-block b w r) u n = u
-  does-held a m (Acts.records-last b w r) u n = refl
-  does-held a m (Acts.hands-octet k e) u n = u
-  does-held a m (Acts.hands-byte k l w e) u n = u
-  does-held a m (Acts.hands-last q w e) u n = checked-held (s .tape) (passedTo (s .drive .head + 513) (s .drive)) u
-  does-held a m (Acts.meets-edge r) u n = checked-held (s .tape) (s .drive) u
-  does-held a m Acts.goes-up u n = u
-  does-held a m Acts.goes-down u n = u
-  does-held a m Acts.goes-idle u n = u
-  does-held a m Acts.goes-home u n = u
-  does-held a m (Acts.leaves-mark w r) u n = u
-  does-held a m Acts.has-no-room u n = refl
-
-  -- where a rule raised EXCEPTION it is up
-  pub does-raise : (a : Act) (m : Acted) → Acts.Does g s a m → m .moved .raised ≡ true → m .moved .drive .exception ≡ true
-  does-raise a m (Acts.nothing c) h = absurd (false≢true h)
-  does-raise a m (Acts.selects c k l e) h = absurd (false≢true h)
-  does-raise a m (Acts.rewinds c) h = absurd (false≢true h)
-  does-raise a m (Acts.erases p) h = absurd (false≢true h)
-  does-raise a m (Acts.sets-writing c p) h = absurd (false≢true h)
-  does-raise a m (Acts.records-mark c p) h = absurd (false≢true h)
-  does-raise a m (Acts.sets-reading c p) h = checked-up (s .tape) (inMode Reading (s .drive)) h
-  does-raise a m (Acts.searches c) h = searched-up (passed (s .tape) (s .drive .head)) (s .drive)
-  does-raise a m Acts.reports h = absurd (false≢true h)
-  does-raise a m (Acts.faults c b) h = refl
-  does-raise a m (Acts.meets-plug c) h = refl
-  does-raise a m (Acts.finds-no-room c) h = refl
-  does-raise a m (Acts.drops-block b) h = refl
-  does-raise a m Acts.finds-no-block h = refl
-  does-raise a m (Acts.stages b k l w) h = absurd (false≢true h)
-  does-raise a m (Acts.records-block b w r) h = absurd (false≢true h)
-  does-raise a m (Acts.records-last b w r) h = refl
-  does-raise a m (Acts.hands-octet k e) h = absurd (false≢true h)
-  does-raise a m (Acts.hands-byte k l w e) h = absurd (false≢true h)
-  does-raise a m (Acts.hands-last q w e) h = checked-up (s .tape) (passedTo (s .drive .head + 513) (s .drive)) h
-  does-raise a m (Acts.meets-edge r) h = checked-up (s .tape) (s .drive) r
-  does-raise a m Acts.goes-up h = absurd (false≢true h)
-  does-raise a m Acts.goes-down h = absurd (false≢true h)
-  does-raise a m Acts.goes-idle h = absurd (false≢true h)
-  does-raise a m Acts.goes-home h = absurd (false≢true h)
-  does-raise a m (Acts.leaves-mark w r) h = absurd (false≢true h)
-  does-raise a m Acts.has-no-room h = refl
-
-  -- where no rule raised it, it did not rise
-  pub does-quiet : (a : Act) (m : Acted) → Acts.Does g s a m → m .moved .raised ≡ false → m .moved .drive .exception ≡ true → s .drive .exception ≡ true
-  does-quiet a m (Acts.nothing c) h u = u
-  does-quiet a m (Acts.selects c k l e) h u = u
-  does-quiet a m (Acts.rewinds c) h u = u
-  does-quiet a m (Acts.erases p) h u = u
-  does-quiet a m (Acts.sets-writing c p) h u = u
-  does-quiet a m (Acts.records-mark c p) h u = u
-  does-quiet a m (Acts.sets-reading c p) h u = rw (checked-same (s .tape) (inMode Reading (s .drive)) h) at u
-  does-quiet a m (Acts.searches c) h u = absurd (true≢false h)
-  does-quiet a m Acts.reports h u = absurd (false≢true u)
-  does-quiet a m (Acts.faults c b) h u = absurd (true≢false h)
-  does-quiet a m (Acts.meets-plug c) h u = absurd (true≢false h)
-  does-quiet a m (Acts.finds-no-room c) h u = absurd (true≢false h)
-  does-quiet a m (Acts.drops-block b) h u = absurd (true≢false h)
-  does-quiet a m Acts.finds-no-block h u = absurd (true≢false h)
-  does-quiet a m (Acts.stages b k l w) h u = u
-  does-quiet a m (Acts.records-block b w r) h u = u
-  does-quiet a m (Acts.records-last b w r) h u = absurd (true≢false h)
-  does-quiet a m (Acts.hands-octet k e) h u = u
-  does-quiet a m (Acts.hands-byte k l w e) h u = u
-  does-quiet a m (Acts.hands-last q w e) h u = rw (checked-same (s .tape) (passedTo (s .drive .head + 513) (s .drive)) h) at u
-  does-quiet a m (Acts.meets-edge r) h u = absurd (true≢false h)
-  does-quiet a m Acts.goes-up h u = u
-  does-quiet a m Acts.goes-down h u = u
-  does-quiet a m Acts.goes-idle h u = u
-  does-quiet a m Acts.goes-home h u = u
-  does-quiet a m (Acts.leaves-mark w r) h u = u
-  does-quiet a m Acts.has-no-room h u = absurd (true≢false h)
-
-  -- latched bits and counts stay, but by READ STATUS
-  pub does-report : (a : Act) (m : Acted) → Acts.Does g s a m → (a ≡ Command 192 → ⊥) → ReportStays (s .drive) (m .moved .drive)
-  does-report a m (Acts.nothing c) n = report-same (s .drive) _ refl refl refl
-  does-report a m (Acts.selects c k l e) n = report-same (s .drive) _ refl refl refl
-  does-report a m (Acts.rewinds c) n = report-same (s .drive) _ refl refl refl
-  does-report a m (Acts.erases p) n = report-same (s .drive) _ refl refl refl
-  does-report a m (Acts.sets-writing c p) n = report-same (s .drive) _ refl refl refl
-  does-report a m (Acts.records-mark c p) n = report-same (s .drive) _ refl refl refl
-  does-report a m (Acts.sets-reading c p) n =
-      report-then (s .drive) (inMode Reading (s .drive)) _ refl refl refl (checked-report (s .tape) (inMode Reading (s .drive)))
-  does-report a m (Acts.searches c) n = searched-report (passed (s .tape) (s .drive .head)) (s .drive)
-  does-report a m Acts.reports n = absurd (n refl)
-  does-report a m (Acts.faults c b) n = report-more (s .drive) _ b refl refl refl
-  does-report a m (Acts.meets-plug c) n = report-same (s .drive) _ refl refl refl
-  does-report a m (Acts.finds-no-room c) n = report-more (s .drive) _ Eom refl refl refl
-  does-report a m (Acts.drops-block b) n = report-more (s .drive) _ Eom refl refl refl
-  does-report a m Acts.finds-no-block n = report-more (s .drive) _ Ude refl refl refl
-  does-report a m (Acts.stages b k l w) n = report-same (s .drive) _ refl refl refl
-  does-report a m (Acts.records-block b w r) n = report-same (s .drive) _ refl refl refl
-  does-report a m (Acts.records-last b w r) n = report-more (s .drive) _ Eom refl refl refl
-  does-report a m (Acts.hands-octet k e) n = report-same (s .drive) _ refl refl refl
-  does-report a m (Acts.hands-byte k l w e) n = report-same (s .drive) _ refl refl refl
-  does-report a m (Acts.hands-last q w e) n =
-      report-then (s .drive) (passedTo (s .drive .head + 513) (s .drive)) _ refl refl refl (checked-report (s .tape) (passedTo (s .drive .head + 513) (s .drive)))
-  does-report a m (Acts.meets-edge r) n = checked-report (s .tape) (s .drive)
-  does-report a m Acts.goes-up n = report-same (s .drive) _ refl refl refl
-  does-report a m Acts.goes-down n = report-same (s .drive) _ refl refl refl
-  does-report a m Acts.goes-idle n = report-same (s .drive) _ refl refl refl
-  does-report a m Acts.goes-home n = report-same (s .drive) _ refl refl refl
-  does-report a m (Acts.leaves-mark w r) n = report-same (s .drive) _ refl refl refl
-  does-report a m Acts.has-no-room n = report-more (s .drive) _ Eom refl refl refl
-
-  -- what an act can do to the tape
-  pub does-change : (a : Act) (m : Acted) → Acts.Does g s a m → length g ≡ 512 → Change (Own a) (s .tape) (s .drive .head) (m .tape)
-  does-change a m (Acts.nothing c) w = unchanged
-  does-change a m (Acts.selects c k l e) w = unchanged
-  does-change a m (Acts.rewinds c) w = unchanged
-  does-change a m (Acts.erases p) w = erasedWhole refl
-  does-change a m (Acts.sets-writing c p) w = unchanged
-  does-change a m (Acts.records-mark c p) w = markMade (leb-true _ _ (p .room))
-  does-change a m (Acts.sets-reading c p) w = unchanged
-  does-change a m (Acts.searches c) w = unchanged
-  does-change a m Acts.reports w = unchanged
-  does-change a m (Acts.faults c b) w = unchanged
-  does-change a m (Acts.meets-plug c) w = unchanged
-  does-change a m (Acts.finds-no-room c) w = unchanged
-  does-change a m (Acts.drops-block b) w = unchanged
-  does-change a m Acts.finds-no-block w = unchanged
-  does-change a m (Acts.stages b k l q) w = unchanged
-  does-change a m (Acts.records-block b q r) w = blockMade g w (omega (arith, r))
-  does-change a m (Acts.records-last b q r) w = blockMade g w (omega (arith, r))
-  does-change a m (Acts.hands-octet k e) w = unchanged
-  does-change a m (Acts.hands-byte k l q e) w = unchanged
-  does-change a m (Acts.hands-last p q e) w = unchanged
-  does-change a m (Acts.meets-edge r) w = unchanged
-  does-change a m Acts.goes-up w = unchanged
-  does-change a m Acts.goes-down w = unchanged
-  does-change a m Acts.goes-idle w = unchanged
-  does-change a m Acts.goes-home w = unchanged
-  does-change a m (Acts.leaves-mark q r) w = markMade r
-  does-change a m Acts.has-no-room w = unchanged
-
-  -- a byte comes with event 03, and with an exception only as byte 512
-  pub record Byte (a : Act) (m : Acted) : Type 0 where
+  pub record Leaf (a : Act) (m : Acted) : Type 0 where
+    -- A drive whose EXCEPTION is up keeps it, but by READ STATUS.
+    pub held : s .drive .exception ≡ true → (a ≡ Command 192 → ⊥) → m .moved .drive .exception ≡ true
+    -- Where a rule raised EXCEPTION it is up; where none did it did not rise.
+    pub raise : m .moved .raised ≡ true → m .moved .drive .exception ≡ true
+    pub quiet : m .moved .raised ≡ false → m .moved .drive .exception ≡ true → s .drive .exception ≡ true
+    -- Latched bits and counts stay, but by READ STATUS.
+    pub report : (a ≡ Command 192 → ⊥) → ReportStays (s .drive) (m .moved .drive)
+    -- What an act can do to the tape.
+    pub change : length g ≡ 512 → Change (Own a) (s .tape) (s .drive .head) (m .tape)
+    -- A byte comes with event 03, and with an exception only as byte 512.
     pub absent : m .moved .given ≡ false → m .moved .byte ≡ 0
     pub taken : m .moved .given ≡ true → a ≡ Take
     pub last : m .moved .given ≡ true → m .moved .raised ≡ true → s .port .phase ≡ Giving 511
 
-  none : (a : Act) (m : Acted) → m .moved .given ≡ false → m .moved .byte ≡ 0 → Byte a m
-  none a m n z = record { absent = λ _. z; taken = λ h. absurd (false≢true (sym n ∙ h)); last = λ h _. absurd (false≢true (sym n ∙ h)) }
+  -- What a leaf leaves of EXCEPTION, bits and counts: all as it was, or EXCEPTION up with one bit more or none, or what a check or a search left.
+  record Reported (m : Acted) : Type 0 where
+    held : s .drive .exception ≡ true → m .moved .drive .exception ≡ true
+    raise : m .moved .raised ≡ true → m .moved .drive .exception ≡ true
+    quiet : m .moved .raised ≡ false → m .moved .drive .exception ≡ true → s .drive .exception ≡ true
+    report : ReportStays (s .drive) (m .moved .drive)
 
-  pub does-byte : (a : Act) (m : Acted) → Acts.Does g s a m → Byte a m
-  does-byte a m (Acts.nothing c) = none a m refl refl
-  does-byte a m (Acts.selects c k l e) = none a m refl refl
-  does-byte a m (Acts.rewinds c) = none a m refl refl
-  does-byte a m (Acts.erases p) = none a m refl refl
-  does-byte a m (Acts.sets-writing c p) = none a m refl refl
-  does-byte a m (Acts.records-mark c p) = none a m refl refl
-  does-byte a m (Acts.sets-reading c p) = none a m refl refl
-  does-byte a m (Acts.searches c) = none a m refl refl
-  does-byte a m Acts.reports = none a m refl refl
-  does-byte a m (Acts.faults c b) = none a m refl refl
-  does-byte a m (Acts.meets-plug c) = none a m refl refl
-  does-byte a m (Acts.finds-no-room c) = none a m refl refl
-  does-byte a m (Acts.drops-block b) = none a m refl refl
-  does-byte a m Acts.finds-no-block = none a m refl refl
-  does-byte a m (Acts.stages b k l w) = none a m refl refl
-  does-byte a m (Acts.records-block b w r) = none a m refl refl
-  does-byte a m (Acts.records-last b w r) = none a m refl refl
-  does-byte a m (Acts.hands-octet k e) = record { absent = λ h. absurd (true≢false h); taken = λ _. refl; last = λ _ h. absurd (false≢true h) }
-  does-byte a m (Acts.hands-byte k l w e) = record { absent = λ h. absurd (true≢false h); taken = λ _. refl; last = λ _ h. absurd (false≢true h) }
-  does-byte a m (Acts.hands-last q w e) = record { absent = λ h. absurd (true≢false h); taken = λ _. refl; last = λ _ _. q }
-  does-byte a m (Acts.meets-edge r) = none a m refl refl
-  does-byte a m Acts.goes-up = none a m refl refl
-  does-byte a m Acts.goes-down = none a m refl refl
-  does-byte a m Acts.goes-idle = none a m refl refl
-  does-byte a m Acts.goes-home = none a m refl refl
-  does-byte a m (Acts.leaves-mark w r) = none a m refl refl
-  does-byte a m Acts.has-no-room = none a m refl refl
+  calm : (m : Acted) → m .moved .raised ≡ false → m .moved .drive .exception ≡ s .drive .exception → ReportStays (s .drive) (m .moved .drive) → Reported m
+  calm m r e b = record { held = λ u. e ∙ u; raise = λ h. absurd (false≢true (sym r ∙ h)); quiet = λ _ u. sym e ∙ u; report = b }
+
+  loud : (m : Acted) → m .moved .raised ≡ true → m .moved .drive .exception ≡ true → ReportStays (s .drive) (m .moved .drive) → Reported m
+  loud m r e b = record { held = λ _. e; raise = λ _. e; quiet = λ h _. absurd (true≢false (sym r ∙ h)); report = b }
+
+  as-was : (m : Acted) → m .moved .raised ≡ false → m .moved .drive .exception ≡ s .drive .exception → m .moved .drive .latched ≡ s .drive .latched
+      → m .moved .drive .errors ≡ s .drive .errors → m .moved .drive .underruns ≡ s .drive .underruns → Reported m
+  as-was m r e l x n = calm m r e (report-same (s .drive) (m .moved .drive) l x n)
+
+  one-bit : (m : Acted) (b : Bit) → m .moved .raised ≡ true → m .moved .drive .exception ≡ true → m .moved .drive .latched ≡ withBit b (s .drive .latched)
+      → m .moved .drive .errors ≡ s .drive .errors → m .moved .drive .underruns ≡ s .drive .underruns → Reported m
+  one-bit m b r e l x n = loud m r e (report-more (s .drive) (m .moved .drive) b l x n)
+
+  -- the edge check made on a record d that has the drive's report
+  edge : (m : Acted) (d : Drive) → d .exception ≡ s .drive .exception → d .latched ≡ s .drive .latched → d .errors ≡ s .drive .errors → d .underruns ≡ s .drive .underruns
+      → m .moved .raised ≡ checked (s .tape) d .raised → m .moved .drive ≡ checked (s .tape) d .drive → Reported m
+  edge m d e l x n r q =
+      record {
+        held = λ u. ap (λ (y : Drive). y .exception) q ∙ checked-held (s .tape) d (e ∙ u);
+        raise = λ h. ap (λ (y : Drive). y .exception) q ∙ checked-up (s .tape) d (sym r ∙ h);
+        quiet = λ h u. sym e ∙ sym (ap (λ (y : Drive). y .exception) (checked-same (s .tape) d (sym r ∙ h))) ∙ sym (ap (λ (y : Drive). y .exception) q) ∙ u;
+        report = rw q (report-then (s .drive) d _ l x n (checked-report (s .tape) d));
+      }
+
+  -- a leaf without a byte, with a byte that no exception follows, with byte 512
+  silent : (a : Act) (m : Acted) → Reported m → (length g ≡ 512 → Change (Own a) (s .tape) (s .drive .head) (m .tape)) → m .moved .given ≡ false → m .moved .byte ≡ 0 → Leaf a m
+  silent a m r c n z =
+      record {
+        held = λ u _. r .held u;
+        raise = r .raise;
+        quiet = r .quiet;
+        report = λ _. r .report;
+        change = c;
+        absent = λ _. z;
+        taken = λ h. absurd (false≢true (sym n ∙ h));
+        last = λ h _. absurd (false≢true (sym n ∙ h));
+      }
+
+  handing : (m : Acted) → Reported m → m .tape ≡ s .tape → m .moved .given ≡ true → (m .moved .raised ≡ true → s .port .phase ≡ Giving 511) → Leaf Take m
+  handing m r t n z =
+      record {
+        held = λ u _. r .held u;
+        raise = r .raise;
+        quiet = r .quiet;
+        report = λ _. r .report;
+        change = λ _. rw t unchanged;
+        absent = λ h. absurd (true≢false (sym n ∙ h));
+        taken = λ _. refl;
+        last = λ _ h. z h;
+      }
+
+  pub does-leaf : (a : Act) (m : Acted) → Acts.Does g s a m → Leaf a m
+  does-leaf a m (Acts.nothing c) = silent a m (as-was m refl refl refl refl refl) (λ _. unchanged) refl refl
+  does-leaf a m (Acts.selects c k l e) = silent a m (as-was m refl refl refl refl refl) (λ _. unchanged) refl refl
+  does-leaf a m (Acts.rewinds c) = silent a m (as-was m refl refl refl refl refl) (λ _. unchanged) refl refl
+  does-leaf a m (Acts.erases p) = silent a m (as-was m refl refl refl refl refl) (λ _. erasedWhole refl) refl refl
+  does-leaf a m (Acts.sets-writing c p) = silent a m (as-was m refl refl refl refl refl) (λ _. unchanged) refl refl
+  does-leaf a m (Acts.records-mark c p) = silent a m (as-was m refl refl refl refl refl) (λ _. markMade (leb-true _ _ (p .room))) refl refl
+  does-leaf a m (Acts.sets-reading c p) = silent a m (edge m (inMode Reading (s .drive)) refl refl refl refl refl refl) (λ _. unchanged) refl refl
+  does-leaf a m (Acts.searches c) =
+      let r = passed (s .tape) (s .drive .head) in
+      silent a m (loud m refl (searched-up r (s .drive)) (searched-report r (s .drive))) (λ _. unchanged) refl refl
+  does-leaf a m Acts.reports =
+      record {
+        held = λ _ n. absurd (n refl);
+        raise = λ h. absurd (false≢true h);
+        quiet = λ _ u. absurd (false≢true u);
+        report = λ n. absurd (n refl);
+        change = λ _. unchanged;
+        absent = λ _. refl;
+        taken = λ h. absurd (false≢true h);
+        last = λ h _. absurd (false≢true h);
+      }
+  does-leaf a m (Acts.faults c b) = silent a m (one-bit m b refl refl refl refl refl) (λ _. unchanged) refl refl
+  does-leaf a m (Acts.meets-plug c) = silent a m (loud m refl refl (report-same (s .drive) _ refl refl refl)) (λ _. unchanged) refl refl
+  does-leaf a m (Acts.finds-no-room c) = silent a m (one-bit m Eom refl refl refl refl refl) (λ _. unchanged) refl refl
+  does-leaf a m (Acts.stages b k l w) = silent a m (as-was m refl refl refl refl refl) (λ _. unchanged) refl refl
+  does-leaf a m (Acts.records-block b w r) = silent a m (as-was m refl refl refl refl refl) (λ q. blockMade g q (omega (arith, r))) refl refl
+  does-leaf a m (Acts.records-last b w r) = silent a m (one-bit m Eom refl refl refl refl refl) (λ q. blockMade g q (omega (arith, r))) refl refl
+  does-leaf a m (Acts.drops-block b) = silent a m (one-bit m Eom refl refl refl refl refl) (λ _. unchanged) refl refl
+  does-leaf a m (Acts.hands-octet k e) = handing m (as-was m refl refl refl refl refl) refl refl (λ h. absurd (false≢true h))
+  does-leaf a m (Acts.hands-byte k l w e) = handing m (as-was m refl refl refl refl refl) refl refl (λ h. absurd (false≢true h))
+  does-leaf a m (Acts.hands-last q w e) = handing m (edge m (passedTo (s .drive .head + 513) (s .drive)) refl refl refl refl refl refl) refl refl (λ _. q)
+  does-leaf a m (Acts.meets-edge r) = silent a m (edge m (s .drive) refl refl refl refl (sym r) refl) (λ _. unchanged) refl refl
+  does-leaf a m Acts.finds-no-block = silent a m (one-bit m Ude refl refl refl refl refl) (λ _. unchanged) refl refl
+  does-leaf a m Acts.goes-up = silent a m (as-was m refl refl refl refl refl) (λ _. unchanged) refl refl
+  does-leaf a m Acts.goes-down = silent a m (as-was m refl refl refl refl refl) (λ _. unchanged) refl refl
+  does-leaf a m Acts.goes-idle = silent a m (as-was m refl refl refl refl refl) (λ _. unchanged) refl refl
+  does-leaf a m Acts.goes-home = silent a m (as-was m refl refl refl refl refl) (λ _. unchanged) refl refl
+  does-leaf a m (Acts.leaves-mark w r) = silent a m (as-was m refl refl refl refl refl) (λ _. markMade r) refl refl
+  does-leaf a m Acts.has-no-room = silent a m (one-bit m Eom refl refl refl refl refl) (λ _. unchanged) refl refl

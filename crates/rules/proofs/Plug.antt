@@ -78,7 +78,7 @@ one-change c l event w =
     go NoEvent k h = unchanged
     go Reset k h = unchanged
     go (Named j x) k h = unchanged
-    go (Own a) k h = rw put-same (Leaves.does-change (stagedIn c a l .staging) (seatOf c l) a _ (own-does c l a k h) (staged-sound c l a k .whole))
+    go (Own a) k h = rw put-same (Leaves.does-leaf (stagedIn c a l .staging) (seatOf c l) a _ (own-does c l a k h) .change (staged-sound c l a k .whole))
 
 block-room : (t g : List ℕ) (h : ℕ) → length g ≡ 512 → h + 513 ≤ length t → h + length (blockRecord g) ≤ length t
 block-room t g h e r = rw e (omega (arith, r))

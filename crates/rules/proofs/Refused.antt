@@ -95,7 +95,7 @@ effect-byte c l NoEvent k h = no-byte c _ _ refl refl
 effect-byte c l Reset k h = no-byte c _ _ refl refl
 effect-byte c l (Named i w) k h = no-byte c _ _ refl refl
 effect-byte c l (Own a) k h =
-    let b = Leaves.does-byte (stagedIn c a l .staging) (seatOf c l) a _ (own-does c l a k h) in
+    let b = Leaves.does-leaf (stagedIn c a l .staging) (seatOf c l) a _ (own-does c l a k h) in
     record { absent = λ n. b .absent n; taken = λ g. ap Own (b .taken g); last = λ g r. b .last g (raised-is _ r) }
 
 pub bytes-only-taken : BytesOnlyTaken

@@ -98,7 +98,7 @@ module _ (c : Core) (l : Lent) (event : List ℕ) (i : ℕ) (real : i ≤ 3) (up
       go : Kind a → ByStatus c event i
       go (status s) = by-status c event i a q s e h
       go (no-status n) =
-          fell (Leaves.does-held (stagedIn c a l .staging) (seatOf c l) a _ (own-does c l a k h) (subst (λ (j : ℕ). driveAt c j .exception ≡ true) (sym e) up) n) z
+          fell (Leaves.does-leaf (stagedIn c a l .staging) (seatOf c l) a _ (own-does c l a k h) .held (subst (λ (j : ℕ). driveAt c j .exception ≡ true) (sym e) up) n) z
 
   effect-falls : (e : Event) → eventOf event ≡ e → Sound c l → refusalIn c e ≡ Taken → driveAt (effectOf c l e .turn .core) i .exception ≡ false → ByStatus c event i
   effect-falls NoEvent q k h z = fell up z
@@ -141,7 +141,7 @@ effect-stands c l event (Own a) q k h z =
     record {
       drive = c .port .selected;
       real = k .sel;
-      up = rw put-same (Leaves.does-raise (stagedIn c a l .staging) (seatOf c l) a _ (own-does c l a k h) (raised-is _ z));
+      up = rw put-same (Leaves.does-leaf (stagedIn c a l .staging) (seatOf c l) a _ (own-does c l a k h) .raise (raised-is _ z));
     }
 
 refused-not : (a : Answer) → rowOf a .refuses ≡ true → (b : Answer) → rowOf b .refuses ≡ false → a ≡ b → ⊥
@@ -167,7 +167,7 @@ module _ (c : Core) (l : Lent) (event : List ℕ) (i : ℕ) (real : i ≤ 3) whe
       → d .exception ≡ true → driveAt c i .exception ≡ true
   own-quiet a k h d (other n) z u = u
   own-quiet a k h d (same e) z u =
-      subst (λ (j : ℕ). driveAt c j .exception ≡ true) e (Leaves.does-quiet (stagedIn c a l .staging) (seatOf c l) a _ (own-does c l a k h) z u)
+      subst (λ (j : ℕ). driveAt c j .exception ≡ true) e (Leaves.does-leaf (stagedIn c a l .staging) (seatOf c l) a _ (own-does c l a k h) .quiet z u)
 
   effect-quiet : (e : Event) → eventOf event ≡ e → Sound c l → refusalIn c e ≡ Taken → effectOf c l e .turn .answer ≡ Taken
       → driveAt (effectOf c l e .turn .core) i .exception ≡ true → driveAt c i .exception ≡ true
@@ -211,7 +211,7 @@ module _ (c : Core) (l : Lent) (event : List ℕ) (i : ℕ) (real : i ≤ 3) (no
   own-report a q k h d (other n) = as-was
   own-report a q k h d (same e) =
       subst (λ (j : ℕ). ReportStays (driveAt c j) (act (stagedIn c a l .staging) (seatOf c l) a .moved .drive)) e
-      (Leaves.does-report (stagedIn c a l .staging) (seatOf c l) a _ (own-does c l a k h) (λ s. no-status′ (by-status c event i a q s e h)))
+      (Leaves.does-leaf (stagedIn c a l .staging) (seatOf c l) a _ (own-does c l a k h) .report (λ s. no-status′ (by-status c event i a q s e h)))
 
   effect-report : (e : Event) → eventOf event ≡ e → Sound c l → refusalIn c e ≡ Taken → ReportStays (driveAt c i) (driveAt (effectOf c l e .turn .core) i)
   effect-report NoEvent q k h = as-was
