@@ -20,7 +20,7 @@ pub(crate) fn is_block(found: Found) -> bool
     }
 }
 
-// End of data, NDT; a bad record, UDE. The mode becomes Idle.
+// No record to go on with: the bit tells why, and the drive is Idle.
 fn halt(drive: Drive, why: Why) -> Drive
     ensures { λ r. ⌜ r ≡ halted why drive ⌝ }
 {
@@ -31,7 +31,7 @@ fn halt(drive: Drive, why: Why) -> Drive
     }
 }
 
-// At the head: a block, nothing; a mark, FIL and the head moves past it; else as above.
+// What stands at the head decides: only a block lets the drive go on; a mark is passed and reported.
 pub fn check(drive: Drive, tape: &[u8]) -> Checked
     ensures { λ r. ⌜ r ≡ checked (now (tape .entry)) drive ⌝ }
 {

@@ -65,7 +65,7 @@ fn after_block(port: Port, drive: Drive, tape: &[u8]) -> Moved
     }
 }
 
-// The block stored as one part that starts at the head; without room EOM, and nothing is recorded.
+// The whole block is recorded, or dropped with EOM where it has no room.
 fn store(port: Port, staging: &[u8; BODY], drive: Drive, tape: &mut [u8]) -> Moved
     ensures { λ r. ⌜ acted r (now (tape .exit)) ≡ stored (now (staging .entry)) port drive (now (tape .entry)) ⌝ }
 {

@@ -41,7 +41,7 @@ fn leave_writing(port: Port, drive: Drive, tape: &mut [u8]) -> Moved
     }
 }
 
-// With a cartridge and without EXCEPTION: a mark is recorded if Writing, then Idle, head 0.
+// A loaded drive without EXCEPTION goes home, and one that was Writing leaves a mark first.
 fn leave(port: Port, drive: Drive, tape: &mut [u8]) -> Moved
     ensures { λ r. ⌜ acted r (now (tape .exit)) ≡ leaving (seat port drive (now (tape .entry))) (drive .mode) ⌝ }
 {

@@ -30,7 +30,7 @@ fn bit(weight: u8, stands: bool) -> u8
     if stands { weight } else { 0 }
 }
 
-// CNI is latched or not loaded; WRP is protected; USL and BNL stay 0. ST0 stands if another bit does.
+// From ST0 down, a line for each bit: CNI also shows an empty slot, WRP the plug; two are never set.
 fn octet0(drive: Drive) -> u8
     ensures { λ r. ⌜ r ≡ octet0 drive ⌝ }
 {
@@ -45,7 +45,7 @@ fn octet0(drive: Drive) -> u8
     bit(ST0, others != 0) + others
 }
 
-// BOM is loaded with head 0; MBD, BPE and ERM stay 0. ST1 stands if another bit does.
+// From ST1 down: BOM shows a cartridge that stands at its beginning; three are never set.
 fn octet1(drive: Drive) -> u8
     ensures { λ r. ⌜ r ≡ octet1 drive ⌝ }
 {
@@ -87,7 +87,7 @@ fn underruns_low(underruns: Underruns) -> u8
     (underruns.0 % 256) as u8
 }
 
-// Octets 2, 3: errors, high octet first; 4, 5: underruns.
+// The errors come before the underruns, high half first.
 pub fn octets(drive: Drive) -> [u8; OCTETS]
     ensures { λ r. ⌜ r ≡ octetsOf drive ⌝ }
 {

@@ -23,7 +23,7 @@ use tape::BLOCK_SIZE;
 use tape::BODY;
 use tape::found_at;
 
-// Byte n + 1 of the whole block at the head: the tape's own. After byte 512: head past the block, Rest, edge check.
+// The next byte of the whole block at the head, off the tape itself; behind its last byte comes the edge check.
 fn hand(port: Port, drive: Drive, tape: &[u8], n: usize) -> Moved
     requires { ⌜ drive .head + blockSize ≤ length (now tape) ⌝ }
     ensures { λ r. ⌜ acted r (now (tape .entry)) ≡ handed (seat port drive (now (tape .entry))) n ⌝ }
@@ -61,7 +61,7 @@ fn take_first(port: Port, drive: Drive, tape: &[u8]) -> Moved
     }
 }
 
-// Inside a block UDE, phase Rest, Idle, if the record at the head is no longer a whole block.
+// In the middle of a block the record is looked at anew: where it is no whole block any more, UDE.
 fn take_next(port: Port, drive: Drive, tape: &[u8], n: usize) -> Moved
     ensures { λ r. ⌜ acted r (now (tape .entry)) ≡ nextTaken (seat port drive (now (tape .entry))) n (isBlock (foundAt (now (tape .entry)) (drive .head))) ⌝ }
 {

@@ -25,7 +25,7 @@ givenBefore (Taking n) = n
 givenBefore (Giving n) = 0
 givenBefore (Status k) = 0
 
--- A byte is staged at place n, counted from 0, where n of the block were given before. The last place is 511.
+-- The place of the next byte: as many as came before it, and never past the last.
 abbrev pub placeOf : ℕ → ℕ
 placeOf n = pick (ltb n lastPlace) n lastPlace
 
@@ -40,7 +40,7 @@ roomToWrite d t = leb (d .head + writeRoom) (length t)
 unfoldable pub afterBlock : Port → Drive → List ℕ → Acted
 afterBlock p d t = pick (roomToWrite d t) (leaves false p d t) (leaves true p (stopping Eom d) t)
 
--- The 512th: the block g is stored as one part that starts at the head. Without room EOM, and nothing is recorded.
+-- The block g is whole: it is recorded, or dropped with EOM where it has no room.
 unfoldable pub stored : List ℕ → Port → Drive → List ℕ → Acted
 stored g p d t =
     pick (roomToWrite d t)
@@ -54,8 +54,7 @@ gave g s n =
     (leaves false (atPhase (Taking (n + 1)) (s .port)) (s .drive) (s .tape))
     (stored g (resting s) (s .drive) (s .tape))
 
--- Byte n + 1 of the block at the head is the tape's own at head + 1 + n; the head stays until byte 512.
--- After byte 512: head past the block, Rest, edge check.
+-- The last byte of a block comes with what the edge check behind the block found. Every byte is read off the tape itself.
 abbrev pub lastHanded : Seat → Checked → Acted
 lastHanded s c = hands (c .raised) (getD (s .tape) (s .drive .head + bodySize) 0) (resting s) (c .drive) (s .tape)
 
@@ -69,7 +68,7 @@ handed s n =
 abbrev pub firstTaken : Seat → Checked → Acted
 firstTaken s c = pick (c .raised) (leaves true (resting s) (c .drive) (s .tape)) (handed s 0)
 
--- Inside a block UDE, phase Rest, Idle, if the record at the head is no longer a whole block.
+-- In the middle of a block the record is looked at anew: where it is no whole block any more, UDE.
 abbrev pub nextTaken : Seat → ℕ → Bool → Acted
 nextTaken s n whole = pick whole (handed s n) (leaves true (resting s) (stopping Ude (s .drive)) (s .tape))
 

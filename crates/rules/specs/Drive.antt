@@ -96,19 +96,19 @@ made next d = setHead next d
 abbrev pub passedTo : ℕ → Drive → Drive
 passedTo at d = setHead at d
 
--- READ STATUS clears the latched bits, both counters and EXCEPTION.
+-- What READ STATUS takes away once its octets are made.
 abbrev pub cleared : Drive → Drive
 cleared d = setCounts noErrors noUnderruns (setReport false noBits d)
 
--- Cartridge in: loaded, plug as given, head 0.
+-- A cartridge comes in with its plug, and stands at its beginning.
 abbrev pub loadedWith : Bool → Drive → Drive
 loadedWith plug d = rewound (setCartridge true plug d)
 
--- Cartridge out: not loaded, not protected, head 0, Idle, CNI latched, EXCEPTION.
+-- A cartridge is pulled: the drive stops with CNI, and nothing of cartridge, plug or place is left.
 abbrev pub pulled : Drive → Drive
 pulled d = rewound (setCartridge false false (stopping Cni d))
 
--- A count: one more, up to 65,535 and no further.
+-- One more, but never past the highest count.
 abbrev pub highest : ℕ
 highest = 65535
 

@@ -19,13 +19,13 @@ isBlock Block = true
 isBlock Mark = false
 isBlock (Stop w) = false
 
--- End of data, NDT; a bad record, UDE. The mode becomes Idle.
+-- Where there is no record to go on with: the bit tells why, and the drive is Idle.
 abbrev pub halted : Why → Drive → Drive
 halted End d = stopping Ndt d
 halted Unknown d = stopping Ude d
 halted Bad d = stopping Ude d
 
--- A block, nothing; a mark, FIL and the head moves past it; else as above.
+-- What stands at the head decides: only a block lets a drive go on; a mark is passed and reported.
 abbrev pub edged : Found → Drive → Drive
 edged Block d = d
 edged Mark d = stopping Fil (passedTo (d .head + markSize) d)
@@ -38,7 +38,7 @@ checkedBy f d = record { raised = not (isBlock f); drive = edged f d }
 unfoldable pub checked : List ℕ → Drive → Checked
 checked t d = checkedBy (foundAt t (d .head)) d
 
--- READ FILE MARK: past the next mark FIL; at end of data NDT, head there; at a bad record UDE, head there; mode Idle each time.
+-- READ FILE MARK, by where passing records ended: the head goes there, and the bit tells what was met.
 abbrev pub searched : Passed → Drive → Drive
 searched (Past at) d = stopping Fil (passedTo at d)
 searched (Stopped at w) d = halted w (passedTo at d)

@@ -47,7 +47,7 @@ leaves r p d t = acted (record { raised = r; given = false; byte = 0; port = p; 
 abbrev pub hands : Bool → ℕ → Port → Drive → List ℕ → Acted
 hands r b p d t = acted (record { raised = r; given = true; byte = b; port = p; drive = d }) t
 
--- Recording puts the record at the head.
+-- The tape with a mark, or with the block g, recorded where the head stands.
 abbrev pub withMark : Drive → List ℕ → List ℕ
 withMark d t = recorded t (d .head) markRecord
 
@@ -58,10 +58,7 @@ withBlock g d t = recorded t (d .head) (blockRecord g)
 abbrev pub resting : Seat → Port
 resting s = atPhase Rest (s .port)
 
--- An order that passed the tests.
--- SELECT changes the selected drive only. BOT and INITIALIZATION set the head to 0. ERASE sets every byte of the tape to 0, head 0.
--- WRITE and READ set the mode; READ then makes the edge check. WRITE FILE MARK records a mark; mode Idle. READ FILE MARK passes blocks.
--- READ STATUS makes the six octets, then clears the latched bits, both counters and EXCEPTION; phase Status with 6 outstanding; mode stays.
+-- What each order does once it has passed the tests: whether it raises EXCEPTION, and what it leaves of port, record and tape.
 abbrev pub ordered : Seat → Order → Acted
 ordered s NoOrder = leaves false (resting s) (s .drive) (s .tape)
 ordered s (Select n) = leaves false (atDrive n (s .port)) (chosen (s .drive)) (s .tape)

@@ -15,7 +15,7 @@ use Rattle.rules.specs.declared.event.Event.the-variants.{NoEvent, Reset
 abbrev pub named : ℕ → What → Event
 named n w = pick (leb n 3) (Named n w) NoEvent
 
--- Cartridge in: drive 0 to 3, plus 80 hex if protected.
+-- The body of 07: the drive's number, with the top bit for a protected cartridge.
 abbrev pub cartridgeIn : ℕ → Event
 cartridgeIn b = pick (ltb b 128) (named b (In false)) (named (b - 128) (In true))
 

@@ -1,4 +1,4 @@
--- Lines: EXCEPTION is that of the selected drive; READY: no EXCEPTION, and Rest or Status; DIRECTION: Status, or the selected drive Reading without EXCEPTION.
+-- The three lines, by the phase and the selected drive.
 use mathlib.Core.Bool.{Bool, true, false, not, _&&_, _||_}
 use Rattle.rules.specs.declared.unit.Phase.{Phase}
 use Rattle.rules.specs.declared.unit.Phase.the-variants.{Rest, Taking, Giving, Status}

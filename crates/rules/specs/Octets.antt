@@ -59,11 +59,11 @@ abbrev pub bit : ℕ → Bool → ℕ
 bit weight true = weight
 bit weight false = 0
 
--- ST0 and ST1 stand if another bit of their octet does.
+-- The top bit of an octet stands where any other does.
 unfoldable pub withTop : ℕ → ℕ
 withTop rest = pick (eqb rest 0) 0 (top + rest)
 
--- Bit 7 down: ST0, CNI, USL, WRP, EOM, UDE, BNL, FIL. CNI is latched or not loaded; WRP is protected; USL and BNL stay 0.
+-- Octet 0 from ST0 down, a line for each bit: CNI also shows an empty slot, WRP the plug; two are never set.
 unfoldable pub octet0 : Drive → ℕ
 octet0 d =
     withTop
@@ -75,7 +75,7 @@ octet0 d =
     + bit bnl false
     + bit fil (d .latched .fil))
 
--- Bit 7 down: ST1, ILL, NDT, MBD, BOM, BPE, ERM, POR. BOM is loaded with head 0; MBD, BPE and ERM stay 0.
+-- Octet 1 from ST1 down: BOM shows a cartridge that stands at its beginning; three are never set.
 unfoldable pub octet1 : Drive → ℕ
 octet1 d =
     withTop
@@ -87,7 +87,7 @@ octet1 d =
     + bit erm false
     + bit por (d .latched .por))
 
--- Octets 2, 3: errors, high octet first; 4, 5: underruns.
+-- The halves of each counter; the errors come before the underruns, high half first.
 abbrev pub errorsHigh : Errors → ℕ
 errorsHigh e = e .0 / 256
 

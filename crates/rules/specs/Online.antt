@@ -22,7 +22,7 @@ levelled level s = leaves false (atLevel level (s .port)) (s .drive) (s .tape)
 abbrev pub leftAlone : Seat → List ℕ → Acted
 leftAlone s t = leaves false (atLevel false (s .port)) (rewound (inMode Idle (s .drive))) t
 
--- Dropped with a cartridge and without EXCEPTION: if Writing and head + 1 > L: EOM, Idle, head stays; else a mark is recorded if Writing, then Idle, head 0.
+-- A loaded drive without EXCEPTION goes home, and one that was Writing leaves a mark first; where that has no room it stops with EOM.
 abbrev pub leaving : Seat → Mode → Acted
 leaving s Idle = leftAlone s (s .tape)
 leaving s Writing =

@@ -13,7 +13,7 @@ use Rattle.rules.specs.declared.order.Needs.{Needs}
 use Rattle.rules.specs.declared.order.Fault.{Fault}
 use Rattle.rules.specs.declared.order.Fault.the-variants.{Fine, Illegal, Empty, Plugged, Full}
 
--- SELECT 01, 02, 04, 08; BOT 21; ERASE 22; INITIALIZATION 24; WRITE 40; WRITE FILE MARK 60; READ 80; READ FILE MARK A0; READ STATUS C0. No other.
+-- The twelve codes, in decimal as they stand on the cable; every other octet is no order.
 unfoldable pub orderOf : ℕ → Order
 orderOf c =
     pick (eqb c 1) (Select 0)

@@ -60,8 +60,8 @@ answered a = not (rowOf a .refuses)
 abbrev pub accepted : Answer → Bool
 accepted a = eqb (rowOf a .number) 0
 
--- Drive d, the drive selected and the level before the event, and its answer: RESET; every ONLINE change answered 0 or 1; 07 to 0A that name it;
--- a SELECT of it that was accepted; every event that comes while it is selected, except 07 to 0A for another drive.
+-- Whether an event reaches drive d, by what was selected and the level before it, and by its answer. An event that names a drive reaches that one alone;
+-- an act reaches the drive it is for, and any drive whose level it changes or that it selects.
 abbrev pub reachesBy : Reading → ℕ → ℕ → Bool → Answer → Event → Bool
 reachesBy r d selected level a NoEvent = eqb selected d
 reachesBy r d selected level a Reset = true

@@ -1,4 +1,4 @@
--- Answers in the order they are tried: 5, 6, 4, 2, 3.
+-- What refuses an event: 5, 6, 4, 2, 3, tried in that order.
 use Prim.Native.Nat.{ℕ}
 use mathlib.Core.Bool.{Bool, true, false, not, _&&_, _||_}
 use mathlib.Core.List.{List}
@@ -26,7 +26,7 @@ use Rattle.rules.specs.Unit.{Lent, lastPlace, reportSize, driveAt}
 abbrev pub longest : ℕ
 longest = 16777216
 
--- 5. What a mode asks of the cartridge: a drive protected or not Idle with no cartridge, or Writing with a protected one, is impossible.
+-- 5, possible or not. What each mode asks of the slot: a plug wants a cartridge, Reading too, and Writing wants one that is open.
 abbrev pub modeFits : Mode → Bool → Bool → Bool
 modeFits Idle loaded protected = loaded || not protected
 modeFits Writing loaded protected = loaded && not protected
@@ -36,7 +36,7 @@ modeFits Reading loaded protected = loaded
 unfoldable pub possibleDrive : Drive → Bool
 possibleDrive d = leb (d .head) longest && modeFits (d .mode) (d .loaded) (d .protected)
 
--- A place in a block is 1 to 511, octets outstanding are 1 to 6; a part block given needs the selected drive Writing, taken needs it Reading.
+-- How far a block or a report can be, and the mode that goes with a part block.
 unfoldable pub possiblePhase : Phase → Mode → Bool
 possiblePhase Rest m = true
 possiblePhase (Taking n) m = leb 1 n && (leb n lastPlace && isWriting m)
@@ -50,27 +50,27 @@ possible c =
     && (possiblePhase (c .port .phase) (driveAt c (c .port .selected) .mode)
     && (possibleDrive (c .drive0) && (possibleDrive (c .drive1) && (possibleDrive (c .drive2) && possibleDrive (c .drive3)))))
 
--- 6. No lent tape is longer than 16,777,216, loaded or not.
+-- 6, too long or not: each of the four lent tapes is looked at, with a cartridge or without.
 unfoldable pub short : Lent → Bool
 short l =
     leb (length (l .tape0)) longest
     && (leb (length (l .tape1)) longest && (leb (length (l .tape2)) longest && leb (length (l .tape3)) longest))
 
--- 2. Out of step: events 01, 04, 05 outside Rest.
+-- 2, in step or not. Commands and the level of ONLINE want Rest.
 abbrev pub atRest : Phase → Bool
 atRest Rest = true
 atRest (Taking n) = false
 atRest (Giving n) = false
 atRest (Status k) = false
 
--- 02 unless the selected drive is Writing without EXCEPTION and the phase is Rest or Taking.
+-- A byte given wants a drive that writes, between blocks or in the middle of one.
 abbrev pub takes : Phase → Bool → Bool
 takes Rest writing = writing
 takes (Taking n) writing = writing
 takes (Giving n) writing = false
 takes (Status k) writing = false
 
--- 03 unless Status, or Giving, or Rest with the drive Reading without EXCEPTION.
+-- A byte taken wants octets or a part block, or at Rest a drive that reads.
 abbrev pub gives : Phase → Bool → Bool
 gives Rest reading = reading
 gives (Taking n) reading = false
@@ -87,7 +87,7 @@ inStep ph writing reading Offline = atRest ph
 abbrev pub inStepAt : Phase → Drive → Act → Bool
 inStepAt ph d a = inStep ph (writes d) (reads d) a
 
--- 3. Cartridge in where one is; out, or a count, where none is.
+-- 3, the slot: a cartridge wants an empty one, everything else a full one.
 abbrev pub slotFits : Bool → What → Bool
 slotFits loaded (In p) = not loaded
 slotFits loaded Out = loaded

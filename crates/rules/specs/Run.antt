@@ -1,4 +1,4 @@
--- A run: events one after the other, each record and tape handed back as the last event left it.
+-- Runs: the world that one event leaves is the world that the next one finds.
 use Prim.Native.Nat.{ℕ}
 use mathlib.Core.List.{List, [], _∷_}
 use lib.ListN.{replicate}

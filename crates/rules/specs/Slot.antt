@@ -21,7 +21,7 @@ isOut Out = true
 isOut Error = false
 isOut Underrun = false
 
--- A part block is dropped and the phase is Rest, but Status stays.
+-- The phase without a part block; octets that are going out go on.
 abbrev pub partDropped : Phase → Phase
 partDropped Rest = Rest
 partDropped (Taking n) = Rest

@@ -1,4 +1,4 @@
--- One event: refusal first, effect second. In every event, what its rule does not name stays.
+-- One event: first whether it is refused, then what it does.
 use Prim.Native.Nat.{ℕ}
 use mathlib.Core.Path.{_≡_}
 use mathlib.Core.Bool.{Bool, true, false}

@@ -76,7 +76,7 @@ atDrive n p = record { selected = n; online = p .online; phase = Rest; octets = 
 abbrev pub showing : List ℕ → Port → Port
 showing octets p = record { selected = p .selected; online = p .online; phase = Status reportSize; octets = octets }
 
--- A fresh unit has drive 0 selected, ONLINE low, phase Rest, staging and octets 0.
+-- Fresh: nothing selected but drive 0, the line low, nothing under way, all bytes 0.
 abbrev pub freshPort : Port
 freshPort = record { selected = 0; online = false; phase = Rest; octets = replicate reportSize 0 }
 

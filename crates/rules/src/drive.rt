@@ -52,7 +52,7 @@ pub struct Latched {
     pub por: bool,
 }
 
-// The data error counter is one kind of count, the underrun counter another.
+// Two kinds of count that cannot be mixed up.
 pub struct Errors(pub u16);
 
 pub struct Underruns(pub u16);

@@ -53,23 +53,23 @@ readyProtected = protectedIn ++ report
 
 abbrev pub starred : List Case
 starred =
-    -- Fresh, no cartridge: C0 81. Again: C0 00.
+    -- no cartridge: the first report, and the second
     case [] [] 192 129 []
     ∷ case [] report 192 0 []
-    -- Loaded open, POR read: 00 88. Protected: 90 88.
+    -- a cartridge, open and protected
     ∷ case (replicate 16 0) ready 0 136 (replicate 16 0)
     ∷ case (replicate 16 0) readyProtected 144 136 (replicate 16 0)
-    -- Loaded open, POR read, code 00: 00 C8. The same with code 03: 00 C8.
+    -- two codes that are no order
     ∷ case (replicate 16 0) (ready ++ command 0) 0 200 (replicate 16 0)
     ∷ case (replicate 16 0) (ready ++ command 3) 0 200 (replicate 16 0)
-    -- READ on an empty tape: 00 A8.
+    -- nothing to read
     ∷ case (replicate 16 0) (ready ++ (online ++ command 128)) 0 168 (replicate 16 0)
-    -- WRITE, protected: 90 88, tape same.
+    -- WRITE meets the plug
     ∷ case (replicate 1541 0) (readyProtected ++ (online ++ command 64)) 144 136 (replicate 1541 0)
-    -- L = 1541: one block is taken, then 88 00. L = 1540: WRITE gives 88 88 at once.
+    -- room for just one block, and a byte less
     ∷ case (replicate 1541 0) (ready ++ (online ++ (command 64 ++ giving 512 7))) 136 0 (1 ∷ (replicate 512 7 ++ replicate 1028 0))
     ∷ case (replicate 1540 0) (ready ++ (online ++ command 64)) 136 136 (replicate 1540 0)
-    -- Mark passed, head 1: 81 00. Kind 07 at head 1, READ: 84 00.
+    -- a mark passed, and an unknown kind behind it
     ∷ case (2 ∷ replicate 15 0) (ready ++ (online ++ command 160)) 129 0 (2 ∷ replicate 15 0)
     ∷ case (2 ∷ 7 ∷ replicate 14 0) (ready ++ (online ++ (command 160 ++ (report ++ command 128)))) 132 0 (2 ∷ 7 ∷ replicate 14 0)
     ∷ []
@@ -129,24 +129,24 @@ writing = ready ++ (online ++ command 64)
 
 abbrev pub runsToCheck : List Run
 runsToCheck =
-    -- 511 bytes given, then command: answer 2. 512: taken.
+    -- a command in the middle of a block, and after it
     from 2000 0 (writing ++ (giving 511 7 ++ command 192))
     ∷ from 2054 0 (writing ++ (giving 512 7 ++ command 192))
     -- A later block is recorded like the first.
     ∷ from 3000 0 (writing ++ (giving 512 7 ++ giving 512 9))
-    -- WRITE, RESET: tape same. WRITE, ONLINE dropped: one mark, head 0.
+    -- a part block ended by RESET, and WRITE ended by the line
     ∷ from 2000 0 (writing ++ (giving 3 7 ++ reset))
     ∷ from 2000 0 (writing ++ offline)
-    -- A cartridge changed between two reports: CNI must still show.
+    -- another cartridge between two reports
     ∷ from 16 0 (ready ++ ((8 ∷ 0 ∷ []) ∷ (openIn 0 ++ report)))
-    -- An underrun while octets are going out belongs to the next report.
+    -- an underrun between two octets: this report, and the next
     ∷ from 16 0 (ready ++ ((1 ∷ 192 ∷ []) ∷ (3 ∷ []) ∷ (10 ∷ 0 ∷ []) ∷ replicate 5 (3 ∷ [])))
     ∷ from 16 0 (ready ++ (((1 ∷ 192 ∷ []) ∷ (3 ∷ []) ∷ (10 ∷ 0 ∷ []) ∷ replicate 5 (3 ∷ [])) ++ report))
-    -- A part block left in staging by RESET must not begin another drive's block.
+    -- three bytes left by drive 0, then a block of drive 1
     ∷ from 2000 2054 (writing ++ (giving 3 9 ++ (reset ++ (report ++ (openIn 1 ++ (command 2 ++ (report ++ (command 64 ++ giving 512 7))))))))
-    -- A rewind of a drive because ONLINE fell while it was not selected.
+    -- drive 0 past a mark while the line falls with drive 1 selected
     ∷ from 16 16 (ready ++ (online ++ (command 96 ++ (command 2 ++ offline))))
-    -- A mark written twice: WRITE FILE MARK, then ONLINE dropped, records one.
+    -- a mark by order, then the line falls
     ∷ from 2000 0 (writing ++ (command 96 ++ offline))
     ∷ []
 

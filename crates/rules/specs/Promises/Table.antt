@@ -1,4 +1,4 @@
--- Demand 1: every event, of any bytes, in any record and with any tapes, gets one of document 01's seven answers, exactly when its table says.
+-- Demand 1: whatever the bytes, the record and the tapes, there is one answer, and the table of document 01 says which.
 use Prim.Native.Nat.{ℕ, _≤_}
 use mathlib.Core.Path.{_≡_}
 use mathlib.Core.Logic.{_↔_}
@@ -38,14 +38,14 @@ outOfStep c Reset = false
 outOfStep c (Named i w) = false
 outOfStep c (Own a) = not (inStepAt (c .port .phase) (driveAt c (c .port .selected)) a)
 
--- 3: cartridge in where one is; out, or a count, where none is.
+-- 3: the slot is not as the event wants it.
 abbrev pub wrongSlot : Core → Event → Bool
 wrongSlot c NoEvent = false
 wrongSlot c Reset = false
 wrongSlot c (Named i w) = not (slotFits (driveAt c i .loaded) w)
 wrongSlot c (Own a) = false
 
--- 1: its rule raises EXCEPTION on a drive, up before or not: RESET, cartridge out, and the acts whose rule says so.
+-- 1: a rule raises EXCEPTION: RESET's, that of a cartridge pulled, and that of an act where it says so.
 abbrev pub raises : Core → Lent → Event → Bool
 raises c l NoEvent = false
 raises c l Reset = true

@@ -26,13 +26,13 @@ abbrev pub Unread : ℕ → World → List (List ℕ) → Type 0
 Unread i w [] = Prim.Unit
 Unread i w (e ∷ es) = (eventOf e ≡ Reset → ⊥) × (ByStatus (w .core) e i → ⊥) × Unread i (after w e) es
 
--- A cartridge changed between two reports: CNI must still show, whatever came between.
+-- A pulled cartridge is reported even if another came in since, and whatever else came.
 abbrev pub CniStillShows : Type 0
 CniStillShows =
     (w : World) (i : ℕ) → i ≤ 3 → Whole (w .lent) → (e : List ℕ) → eventOf e ≡ Named i Out → turnOf w e .answer ≡ Raised
     → (es : List (List ℕ)) → Unread i (after w e) es → Shows cni (octet0 (driveAt (run (after w e) es .core) i))
 
--- An underrun while octets are going out belongs to the next report: the port and its octets stay, the drive has one more.
+-- A count never touches octets that are made: port and octets stay, the drive has one more for its next report.
 pub record CountWaits (w : World) (e : List ℕ) (i : ℕ) : Type 0 where
   pub port : after w e .core .port ≡ w .core .port
   pub count : driveAt (after w e .core) i .underruns .0 ≡ counted (driveAt (w .core) i .underruns .0)
