@@ -1,0 +1,4 @@
+pub mod Runs
+pub mod Demands
+pub mod Outcomes
+mod Bytes

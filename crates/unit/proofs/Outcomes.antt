@@ -1,0 +1,35 @@
+-- Each public contract leaves one outcome.
+use mathlib.Core.Path.{_≡_, sym, ap, ap₂, _∙_}
+use mathlib.Core.List.{List}
+use Prim.Native.Nat.{ℕ}
+use Rattle.rules.specs.declared.answer.Outcome.{Outcome}
+use Rattle.rules.specs.declared.answer.Turn.{Turn}
+use Rattle.rules.specs.Unit.{Lent, putStaging}
+use Rattle.rules.specs.Run.{World}
+use Rattle.rules.proofs.Outcomes.{steps-once}
+use Rattle.unit.specs.Turn.{turnOfOutcome}
+use Rattle.unit.specs.Outcomes.{OneOutcome}
+
+same : {A : Type 0} {x r r′ : A} → r ≡ x → r′ ≡ x → r ≡ r′
+same p q = p ∙ sym q
+
+-- an outcome is its turn and its staging block
+abbrev outcome : Turn → List ℕ → Outcome
+outcome t g = record { answer = t .answer; given = t .given; byte = t .byte; lines = t .lines; unit = record { core = t .core; staging = g } }
+
+pub one-outcome : OneOutcome
+one-outcome =
+    record {
+      number = λ a r r′ p q. same p q;
+      lines = λ c r r′ p q. same p q;
+      possible = λ c r r′ p q. same p q;
+      step-core = steps-once;
+      step =
+          λ c l event r r′ l′ l″ p q.
+          let e = steps-once c l event (turnOfOutcome r) (turnOfOutcome r′) (putStaging l′ (r .unit .staging)) (putStaging l″ (r′ .unit .staging)) p q in
+          let g = e .1 in (
+            ap₂ outcome (e .0) (ap (λ (x : Lent). x .staging) g),
+            (ap (λ (x : Lent). x .tape0) g, ap (λ (x : Lent). x .tape1) g, ap (λ (x : Lent). x .tape2) g, ap (λ (x : Lent). x .tape3) g),
+          );
+      give-bytes = λ w bytes r r′ l′ l″ p q. let e = same p q in (ap (λ (x : World). x .core) e, ap (λ (x : World). x .lent) e);
+    }

@@ -1,0 +1,6 @@
+pub mod Tapes
+pub mod Turn
+pub mod Runs
+pub mod Feed
+pub mod Demands
+pub mod Outcomes

@@ -1,0 +1,22 @@
+// Four drives on one cable: what an event means, what refuses it, and the step that answers it.
+mod answer;
+mod cable;
+mod effect;
+mod event;
+mod feed;
+mod own;
+mod record;
+mod refuse;
+mod slot;
+mod steps;
+mod turn;
+
+pub use answer::number;
+pub use cable::lines;
+pub use feed::give_bytes;
+pub use record::possible;
+pub use steps::step;
+pub use steps::step_core;
+
+// The drives are 0 to 3.
+pub(crate) const LAST_DRIVE: usize = 3;

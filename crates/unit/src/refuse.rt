@@ -1,0 +1,125 @@
+// What refuses an event, in the order of the answers: 5, 6, 4, 2, 3.
+ghost use mathlib.Core.Path.{_≡_};
+ghost use mathlib.Core.Bool.{_&&_};
+ghost use lib.Dec.{leb};
+ghost use Rattle.tape.specs.Choice.{pick};
+ghost use Rattle.rules.specs.declared.answer.Answer.the-variants.{Taken};
+ghost use Rattle.rules.specs.Refusal.{longest, possible, atRest, takes, gives, inStep, slotFits, refusalIn, refusalBy};
+use crate::record::possible;
+use rules::Act;
+use rules::Answer;
+use rules::Core;
+use rules::Event;
+use rules::LONGEST;
+use rules::Phase;
+use rules::What;
+
+// 6: none of the four lent tapes is longer than the longest.
+pub(crate) fn short(tape0: usize, tape1: usize, tape2: usize, tape3: usize) -> bool
+    ensures { λ r. ⌜ r ≡ (leb tape0 longest && (leb tape1 longest && (leb tape2 longest && leb tape3 longest))) ⌝ }
+{
+    (tape0 <= LONGEST) & ((tape1 <= LONGEST) & ((tape2 <= LONGEST) & (tape3 <= LONGEST)))
+}
+
+// 2: a command and a change of ONLINE ask for Rest.
+fn at_rest(phase: Phase) -> bool
+    ensures { λ r. ⌜ r ≡ atRest phase ⌝ }
+{
+    match phase {
+        Phase::Rest => true,
+        Phase::Taking(_) => false,
+        Phase::Giving(_) => false,
+        Phase::Status(_) => false,
+    }
+}
+
+// A byte given asks for Writing without EXCEPTION, at Rest or inside a block.
+fn takes(phase: Phase, writing: bool) -> bool
+    ensures { λ r. ⌜ r ≡ takes phase writing ⌝ }
+{
+    match phase {
+        Phase::Rest => writing,
+        Phase::Taking(_) => writing,
+        Phase::Giving(_) => false,
+        Phase::Status(_) => false,
+    }
+}
+
+// A byte taken asks for Status, for a block under way, or for Reading without EXCEPTION at Rest.
+fn gives(phase: Phase, reading: bool) -> bool
+    ensures { λ r. ⌜ r ≡ gives phase reading ⌝ }
+{
+    match phase {
+        Phase::Rest => reading,
+        Phase::Taking(_) => false,
+        Phase::Giving(_) => true,
+        Phase::Status(_) => true,
+    }
+}
+
+// Each act of the host by what it asks for.
+fn in_step(phase: Phase, writing: bool, reading: bool, a: Act) -> bool
+    ensures { λ r. ⌜ r ≡ inStep phase writing reading a ⌝ }
+{
+    match a {
+        Act::Command(_) => at_rest(phase),
+        Act::Give(_) => takes(phase, writing),
+        Act::Take => gives(phase, reading),
+        Act::Online => at_rest(phase),
+        Act::Offline => at_rest(phase),
+    }
+}
+
+// 3: cartridge in asks for an empty slot, all else for a cartridge.
+fn slot_fits(loaded: bool, what: What) -> bool
+    ensures { λ r. ⌜ r ≡ slotFits loaded what ⌝ }
+{
+    match what {
+        What::In(_) => !loaded,
+        What::Out => loaded,
+        What::Error => loaded,
+        What::Underrun => loaded,
+    }
+}
+
+// Taken where it fits, else refused with the answer.
+fn unless(fits: bool, answer: Answer) -> Answer
+    ensures { λ r. ⌜ r ≡ pick fits Taken answer ⌝ }
+{
+    if fits { Answer::Taken } else { answer }
+}
+
+// 4, 2 and 3: what refuses an event in a possible record with short tapes.
+fn refusal_in(core: Core, event: Event) -> Answer
+    ensures { λ r. ⌜ r ≡ refusalIn core event ⌝ }
+{
+    let port = core.port;
+    let phase = port.phase;
+    let drive = core.drive(port.selected);
+    let writing = drive.writes();
+    let reading = drive.reads();
+    match event {
+        Event::NoEvent => Answer::Malformed,
+        Event::Reset => Answer::Taken,
+        Event::Named(i, what) => unless(slot_fits(core.drive(i).loaded, what), Answer::WrongSlot),
+        Event::Own(a) => unless(in_step(phase, writing, reading, a), Answer::OutOfStep),
+    }
+}
+
+// 5 before 6, and 6 before the others.
+fn refusal_by(possible: bool, short: bool, answer: Answer) -> Answer
+    ensures { λ r. ⌜ r ≡ refusalBy possible short answer ⌝ }
+{
+    if possible {
+        if short { answer } else { Answer::TooLong }
+    } else {
+        Answer::Impossible
+    }
+}
+
+// What refuses an event; `Taken` where nothing does.
+pub(crate) fn refusal(core: Core, short: bool, event: Event) -> Answer
+    ensures { λ r. ⌜ r ≡ refusalBy (possible core) short (refusalIn core event) ⌝ }
+{
+    refusal_by(possible(core), short, refusal_in(core, event))
+}

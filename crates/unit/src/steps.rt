@@ -1,0 +1,62 @@
+// One event: refusal first, effect second.
+ghost use Rattle.rules.specs.Unit.{lent};
+ghost use Rattle.rules.specs.Step.{Steps};
+ghost use Rattle.unit.specs.Turn.{turnOfOutcome};
+use crate::answer::refuses;
+use crate::effect::effect;
+use crate::event::event_of;
+use crate::refuse::refusal;
+use crate::refuse::short;
+use crate::turn::refuse;
+use rules::Core;
+use rules::Outcome;
+use rules::Turn;
+use rules::Unit;
+use tape::BODY;
+
+// One event on a core, with the staging block lent beside the four tapes.
+pub fn step_core(
+    core: Core,
+    staging: &mut [u8; BODY],
+    tape0: &mut [u8],
+    tape1: &mut [u8],
+    tape2: &mut [u8],
+    tape3: &mut [u8],
+    event: &[u8],
+) -> Turn
+    ensures { λ r. ⌜ Steps core (lent (now (staging .entry)) (now (tape0 .entry)) (now (tape1 .entry)) (now (tape2 .entry)) (now (tape3 .entry))) (now (event .entry)) r (lent (now (staging .exit)) (now (tape0 .exit)) (now (tape1 .exit)) (now (tape2 .exit)) (now (tape3 .exit))) ⌝ }
+{
+    let e = event_of(event);
+    let near = short(tape0.len(), tape1.len(), tape2.len(), tape3.len());
+    let answer = refusal(core, near, e);
+    if refuses(answer) {
+        return refuse(answer, core);
+    }
+    effect(core, staging, tape0, tape1, tape2, tape3, e)
+}
+
+// One event on a unit, which holds its staging block.
+pub fn step(
+    mut unit: Unit,
+    tape0: &mut [u8],
+    tape1: &mut [u8],
+    tape2: &mut [u8],
+    tape3: &mut [u8],
+    event: &[u8],
+) -> Outcome
+    ensures { λ r. ⌜ Steps (unit .core) (lent (unit .staging) (now (tape0 .entry)) (now (tape1 .entry)) (now (tape2 .entry)) (now (tape3 .entry))) (now (event .entry)) (turnOfOutcome r) (lent (r .unit .staging) (now (tape0 .exit)) (now (tape1 .exit)) (now (tape2 .exit)) (now (tape3 .exit))) ⌝ }
+{
+    let core = unit.core;
+    let turn = step_core(core, &mut unit.staging, tape0, tape1, tape2, tape3, event);
+    let after = turn.core;
+    let lines = turn.lines;
+    let answer = turn.answer;
+    unit.core = after;
+    Outcome {
+        answer,
+        given: turn.given,
+        byte: turn.byte,
+        lines,
+        unit,
+    }
+}
