@@ -1,0 +1,9 @@
+pub mod Answers
+mod Choosing
+mod Digits
+mod Placing
+mod Cutting
+mod Turning
+mod Playing
+mod Keeping
+pub mod Piecewise

@@ -1,0 +1,43 @@
+-- One event answered and shown: what the step and the line leave is the turn.
+use Prim.Native.Nat.{ℕ, _+_, _≤_, _<_}
+use mathlib.Core.Bool.{Bool, true, false, _&&_, false≢true}
+use mathlib.Core.List.{List}
+use mathlib.Core.Path.{_≡_, refl, sym, ap}
+use lib.Dec.{ltb, leb}
+use lib.ListN.{length}
+use borrow.Author.Tests.{ltb-true, leb-true}
+use Rattle.rules.specs.declared.unit.Core.{Core}
+use Rattle.rules.specs.declared.answer.Turn.{Turn}
+use Rattle.rules.specs.Unit.{Lent}
+use Rattle.rules.specs.Step.{Stepped, Steps}
+use Rattle.rules.specs.Run.{world, after, turnOf}
+use Rattle.trace.specs.Line.{lineOf, lineSize, placed}
+use Rattle.trace.specs.Play.{lastNumber, hasRoom, stops, lineIn, Turned, turn}
+
+both : (a b : Bool) → (a && b) ≡ true → (a ≡ true) × (b ≡ true)
+both true true p = (refl, refl)
+both true false p = absurd (false≢true p)
+both false b p = absurd (false≢true p)
+
+-- Where there is room, the number fits, and the line ends inside the buffer.
+pub room-fits : (room full n : ℕ) → hasRoom room full n ≡ true → (n < lastNumber) × (full + lineSize (n + 1) ≤ room)
+unfolding hasRoom
+room-fits room full n p =
+    let q = both (ltb n lastNumber) (leb (full + lineSize (n + 1)) room) p in
+    (ltb-true n lastNumber (q .0), leb-true (full + lineSize (n + 1)) room (q .1))
+
+module _ (c : Core) (l : Lent) (e : List ℕ) (r : Turn) (l′ : Lent) (s : Steps c l e r l′) where
+  after-step : after (world c l) e ≡ world (r .core) l′
+  unfolding after
+  after-step = ap (λ (x : Stepped). world (x .turn .core) (x .lent)) (sym (s .is))
+
+  turn-step : turnOf (world c l) e ≡ r
+  unfolding turnOf
+  turn-step = ap (λ (x : Stepped). x .turn) (sym (s .is))
+
+  pub turn-made : (n full : ℕ) (o : List ℕ)
+      → _≡_ {A = Turned}
+      (record { world = world (r .core) l′; stop = stops (r .answer); full = full + lineSize n; out = placed o full (lineOf n (r .answer) (r .lines) (r .given) (r .byte)) })
+      (turn (world c l) e n o full)
+  unfolding turn lineIn
+  turn-made n full o = rw (after-step, turn-step)

@@ -1,0 +1,26 @@
+use Rattle.tape.specs.Choice.{pick}
+use Rattle.trace.specs.Line.{digit}
+use borrow.Author.Needs.{needs}
+use borrow.Author.Tests.{le-ltb, lt-ltb}
+use Rattle.trace.proofs.line.digit.Statement.{statement}
+use Rattle.trace.proofs.line.digit.Tie as tie
+
+add-result : tie.Need-add-result
+add-result c = search needs
+
+sub-result : tie.Need-sub-result
+sub-result c = search needs
+
+add-result-2 : tie.Need-add-result-2
+add-result-2 c = search needs
+
+returns : tie.Need-returns
+unfolding digit pick
+returns c = rw (lt-ltb _ _ (c .if1 .taken))
+
+returns-2 : tie.Need-returns-2
+unfolding digit pick
+returns-2 c = rw (le-ltb _ _ (c .if1 .left))
+
+pub digit-spec : {M : Type 1} → statement M
+digit-spec = tie.close (tie.spec add-result sub-result add-result-2 returns returns-2)

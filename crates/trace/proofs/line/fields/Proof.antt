@@ -1,0 +1,51 @@
+use Rattle.trace.proofs.Digits.{one-digit}
+use Rattle.trace.specs.Line.{fieldsOf}
+use borrow.Author.Needs.{needs}
+use Rattle.trace.proofs.line.fields.Statement.{statement}
+use Rattle.trace.proofs.line.fields.Tie as tie
+
+number-requires : tie.Need-number-requires
+number-requires c κs = search needs
+
+digit-requires : tie.Need-digit-requires
+digit-requires c κs = rw (c .number .ensures) (one-digit (c .before .args .answer))
+
+digit-requires-2 : tie.Need-digit-requires-2
+digit-requires-2 c κs = search needs
+
+digit-requires-3 : tie.Need-digit-requires-3
+digit-requires-3 c κs = search needs
+
+or-dash-requires : tie.Need-or-dash-requires
+or-dash-requires c κs = search needs
+
+or-dash-requires-2 : tie.Need-or-dash-requires-2
+or-dash-requires-2 c κs = search needs
+
+or-dash-requires-3 : tie.Need-or-dash-requires-3
+or-dash-requires-3 c κs = search needs
+
+or-dash-requires-4 : tie.Need-or-dash-requires-4
+or-dash-requires-4 c κs = search needs
+
+or-dash-requires-5 : tie.Need-or-dash-requires-5
+or-dash-requires-5 c κs = search needs
+
+returns : tie.Need-returns
+unfolding fieldsOf
+returns c = rw (c .or-dash5 .ensures, c .before .or-dash4 .ensures, c .before .before .or-dash3 .ensures, c .before .before .before .or-dash2 .ensures, c .before .before .before .before .or-dash .ensures, c .before .before .before .before .before .digit3 .ensures, c .before .before .before .before .before .before .digit2 .ensures, c .before .before .before .before .before .before .before .digit .ensures, c .before .before .before .before .before .before .before .before .number .ensures)
+
+pub fields-spec : {M : Type 1} → statement M
+fields-spec =
+    tie.close
+    (tie.spec
+    number-requires
+    digit-requires
+    digit-requires-2
+    digit-requires-3
+    or-dash-requires
+    or-dash-requires-2
+    or-dash-requires-3
+    or-dash-requires-4
+    or-dash-requires-5
+    returns)

@@ -1,0 +1,57 @@
+use Rattle.trace.proofs.Placing.{placed-then}
+use Rattle.trace.specs.Line.{decimal, fieldsOf, lineOf, lineSize}
+use borrow.Author.Needs.{needs}
+use native.Mathlib.Omega.{arith}
+use Rattle.trace.proofs.line.put_line.Statement.{statement}
+use Rattle.trace.proofs.line.put_line.Tie as tie
+
+places-requires : tie.Need-places-requires
+places-requires c κs = search needs
+
+put-number-requires : tie.Need-put-number-requires
+unfolding lineSize
+put-number-requires c κs = (c .before .places .ensures, omega (arith, c .before .places .ensures, c .before .before .before .pre))
+
+fields-requires : tie.Need-fields-requires
+fields-requires c κs = search needs
+
+add-put : tie.Need-add-put
+unfolding lineSize
+add-put c = omega (arith, c .before .before .before .before .before .before .places .ensures, c .before .before .before .before .before .before .before .before .pre)
+
+slice-aggregate-put : tie.Need-slice-aggregate-put
+slice-aggregate-put c = search needs
+
+put-requires : tie.Need-put-requires
+unfolding lineSize
+put-requires c κs = omega (arith, c .before .before .before .before .before .put-number .kept .0, c .before .before .before .before .before .before .before .places .ensures, c .before .before .before .before .before .before .before .before .before .pre)
+
+add-result : tie.Need-add-result
+unfolding lineSize
+add-result c = omega (arith, c .before .before .before .before .before .before .before .before .before .before .places .ensures, c .before .before .before .before .before .before .before .before .before .before .before .before .pre)
+
+add-result-2 : tie.Need-add-result-2
+unfolding lineSize
+add-result-2 c = omega (arith, c .before .before .before .before .before .before .before .before .before .before .places .ensures, c .before .before .before .before .before .before .before .before .before .before .before .before .pre)
+
+same-length : tie.Need-same-length
+same-length c = search needs
+
+returns : tie.Need-returns
+unfolding lineOf lineSize fieldsOf
+returns c = let a = c .before .before .before .before .before .before .before .before .before .before .before .before .args in (omega (arith, c .before .before .before .before .before .before .before .before .before .before .places .ensures), rw (c .before .before .put .ensures, c .before .before .before .before .before .before .before .before .put-number .ensures, c .before .before .before .before .before .fields .ensures, c .before .before .before .before .before .before .before .before .before .before .places .ensures) (placed-then (a .out .now) (a .at) (decimal (a .number)) (fieldsOf (a .answer) (a .lines) (a .given) (a .byte)) (c .before .before .before .before .before .before .before .before .before .before .before .before .pre)))
+
+pub put-line-spec : {M : Type 1} → statement M
+put-line-spec =
+    tie.close
+    (tie.spec
+    places-requires
+    put-number-requires
+    fields-requires
+    add-put
+    slice-aggregate-put
+    put-requires
+    add-result
+    add-result-2
+    same-length
+    returns)

@@ -1,0 +1,28 @@
+use Rattle.tape.specs.Choice.{pick}
+use Rattle.trace.proofs.Keeping.{both-bounds}
+use Rattle.trace.specs.Rest.{keptOf}
+use borrow.Author.Needs.{needs}
+use lib.ListN.{length}
+use native.Mathlib.Omega.{arith}
+use Rattle.trace.proofs.rest.keep_rest.Statement.{statement}
+use Rattle.trace.proofs.rest.keep_rest.Tie as tie
+
+sub-n : tie.Need-sub-n
+sub-n c = let a = c .before .before .args in both-bounds (a .from) (a .to) (length (a .buffer .now)) (c .if1 .taken) .0
+
+move-front-requires : tie.Need-move-front-requires
+move-front-requires c κs = let a = c .before .before .before .args in let h = both-bounds (a .from) (a .to) (length (a .buffer .now)) (c .before .if1 .taken) in omega arith
+
+same-length : tie.Need-same-length
+same-length c = search needs
+
+returns : tie.Need-returns
+unfolding keptOf pick
+returns c = let a = c .before .before .before .before .before .before .args in let h = both-bounds (a .from) (a .to) (length (a .buffer .now)) (c .before .before .before .before .if1 .taken) in record { is = rw (c .before .before .before .before .if1 .taken, c .before .before .move-front .ensures); inside = omega arith }
+
+returns-2 : tie.Need-returns-2
+unfolding keptOf pick
+returns-2 c = record { is = rw (c .if1 .left); inside = omega arith }
+
+pub keep-rest-spec : {M : Type 1} → statement M
+keep-rest-spec = tie.close (tie.spec sub-n move-front-requires same-length returns returns-2)

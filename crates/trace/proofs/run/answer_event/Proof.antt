@@ -1,0 +1,52 @@
+use Prim.Native.Nat.{_+_}
+use Rattle.trace.proofs.Turning.{room-fits, turn-made}
+use borrow.Author.Needs.{needs}
+use lib.ListN.{length}
+use native.Mathlib.Omega.{arith}
+use Rattle.trace.proofs.run.answer_event.Statement.{statement}
+use Rattle.trace.proofs.run.answer_event.Tie as tie
+
+step-core-requires : tie.Need-step-core-requires
+step-core-requires c κs = search needs
+
+add-put-line : tie.Need-add-put-line
+add-put-line c = let a = c .before .before .before .before .before .before .before .before .before .before .before .before .before .before .before .before .before .before .before .before .before .before .before .args in omega (arith, room-fits (length (a .out .now)) (a .full) (a .count) (c .before .before .before .before .before .before .before .before .before .before .before .before .before .before .before .before .before .before .before .before .before .before .before .pre) .0)
+
+put-line-requires : tie.Need-put-line-requires
+put-line-requires c κs = let a = c .before .before .before .before .before .before .before .before .before .before .before .before .before .before .before .before .before .before .before .before .before .before .before .args in room-fits (length (a .out .now)) (a .full) (a .count) (c .before .before .before .before .before .before .before .before .before .before .before .before .before .before .before .before .before .before .before .before .before .before .before .pre) .1
+
+stops-requires : tie.Need-stops-requires
+stops-requires c κs = search needs
+
+same-length : tie.Need-same-length
+same-length c = search needs
+
+same-length-2 : tie.Need-same-length-2
+same-length-2 c = search needs
+
+same-length-3 : tie.Need-same-length-3
+same-length-3 c = search needs
+
+same-length-4 : tie.Need-same-length-4
+same-length-4 c = search needs
+
+same-length-5 : tie.Need-same-length-5
+same-length-5 c = search needs
+
+returns : tie.Need-returns
+returns c = let a = c .before .before .before .before .before .before .before .before .before .before .before .before .before .before .before .before .before .before .before .before .before .before .before .before .before .before .before .args in rw (c .before .before .before .put-line .ensures .1, c .before .before .before .put-line .ensures .0, c .stops .ensures) (turn-made _ _ _ _ _ (c .before .before .before .before .before .before .before .before .before .before .before .before .before .before .before .step-core .ensures) (a .count + 1) (a .full) (a .out .now))
+
+pub answer-event-spec : {M : Type 1} → statement M
+answer-event-spec =
+    tie.close
+    (tie.spec
+    step-core-requires
+    add-put-line
+    put-line-requires
+    stops-requires
+    same-length
+    same-length-2
+    same-length-3
+    same-length-4
+    same-length-5
+    returns)

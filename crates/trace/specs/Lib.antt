@@ -1,0 +1,6 @@
+pub mod Cut
+pub mod Line
+pub mod Play
+pub mod Rest
+pub mod Outcomes
+pub mod Pieces

@@ -1,0 +1,11 @@
+//! The comparison of a program with the model's `replay`.
+
+pub mod program;
+pub mod random;
+pub mod records;
+pub mod report;
+pub mod runner;
+pub mod script;
+pub mod shrink;
+pub mod steer;
+pub mod suites;

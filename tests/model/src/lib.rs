@@ -1,0 +1,35 @@
+//! An independent model of the tape unit of document 01, and what compares `replay` with it.
+//!
+//! `Unit::step` is the unit; the modules beside it hold one part of the document each.
+
+pub mod answers;
+mod bytes;
+mod cartridges;
+pub mod commands;
+pub mod compare;
+pub mod events;
+pub mod lines;
+pub mod listing;
+pub mod mutants;
+mod octets;
+mod online;
+mod refusals;
+pub mod replay;
+pub mod state;
+pub mod tape;
+
+#[cfg(test)]
+mod easy_to_get_wrong;
+#[cfg(test)]
+mod runs_to_check;
+#[cfg(test)]
+mod set_records;
+
+pub use answers::{Answer, Outcome};
+pub use events::Event;
+pub use lines::Lines;
+pub use replay::replay;
+pub use state::{Drive, Latched, Mode, Phase, Unit};
+
+/// The four lent tapes, one per drive.
+pub type Tapes = [Vec<u8>; 4];

@@ -1,0 +1,135 @@
+//! Models with one rule broken on purpose: a comparison that misses one of them has no teeth.
+
+mod bytes;
+mod orders;
+mod status;
+mod text;
+
+use crate::events;
+use crate::replay::replay_with;
+use crate::state::{Phase, Unit};
+use crate::{Answer, Lines, Outcome, Tapes};
+
+/// One event in a broken model. A mutant calls `go` for the true step and bends what is around it.
+struct Scene<'a> {
+    unit: &'a mut Unit,
+    tapes: &'a mut Tapes,
+    event: &'a [u8],
+    outcome: Outcome,
+    /// Set where the mutant lies about the lines too.
+    lines: Option<Lines>,
+    /// What a mutant remembers from one event to the next.
+    memory: &'a mut u64,
+}
+
+/// How a mutant is broken: in a step, or in the text around the steps.
+enum Break {
+    Step(fn(&mut Scene)),
+    Text(fn(&[u8]) -> Vec<u8>),
+}
+
+use Break::{Step, Text};
+
+/// Every mutant by its name; its number is its place, counted from 1.
+const MUTANTS: [(&str, Break); 42] = [
+    ("always answers 2", Step(orders::always_two)),
+    ("constant octets", Step(status::constant_octets)),
+    ("takes events and changes nothing", Step(orders::changes_nothing)),
+    ("records the first block, only moves the head for later ones", Step(bytes::first_block_only)),
+    ("invents an error for every underrun", Step(status::invented_counts)),
+    ("cartridge out latches no CNI", Step(status::no_cni)),
+    ("counters cleared after the sixth octet", Step(status::late_clearing)),
+    ("part block survives RESET", Step(bytes::part_survives)),
+    ("ONLINE dropped rewinds every drive", Step(orders::rewinds_all)),
+    ("WRITE FILE MARK goes on Writing", Step(bytes::mark_goes_on)),
+    ("WRITE is content with 1540", Step(bytes::write_1540)),
+    ("early warning one byte late", Step(bytes::late_warning)),
+    ("ST0 overlooks WRP", Step(status::st0_overlooks_wrp)),
+    ("ST1 overlooks BOM", Step(status::st1_overlooks_bom)),
+    ("error counter wraps", Step(status::errors_wrap)),
+    ("underrun counter stops at 65,534", Step(status::underruns_short)),
+    ("SELECT of a drive with EXCEPTION answers 1", Step(orders::select_answers_1)),
+    ("a low level repeated rewinds", Step(orders::repeated_rewinds)),
+    ("recording does not close the data", Step(bytes::no_closing)),
+    ("ERASE leaves the tape", Step(bytes::erase_leaves)),
+    ("no edge check after byte 512", Step(bytes::no_edge_check)),
+    ("DIRECTION stays with EXCEPTION up", Step(status::direction_stays)),
+    ("a command inside a block given drops it", Step(bytes::command_drops)),
+    ("cartridge out ends Status", Step(status::out_ends_status)),
+    ("READ STATUS ends the transfer", Step(status::status_ends)),
+    ("cartridge tested before ONLINE", Step(orders::cartridge_first)),
+    ("READ FILE MARK stays where it was at end of data", Step(bytes::mark_search_stays)),
+    ("an illegal command ends the transfer", Step(orders::illegal_ends)),
+    ("RESET drops ONLINE", Step(orders::reset_drops)),
+    ("cartridge in clears EXCEPTION", Step(status::in_clears)),
+    ("WRITE on a protected cartridge latches ILL", Step(status::protected_ill)),
+    ("cartridge out elsewhere answers 0", Step(status::out_elsewhere)),
+    ("BOT wants ONLINE", Step(orders::bot_wants_online)),
+    ("ONLINE dropped with EXCEPTION keeps the mode", Step(orders::drop_keeps_mode)),
+    ("unknown code 41 is WRITE", Step(orders::loose_code)),
+    ("last byte of a block is the one before it", Step(bytes::last_byte)),
+    ("byte FF is staged as 7F", Step(bytes::seven_bits)),
+    ("drive body 84 is drive 0", Step(orders::loose_body)),
+    ("replay: a cut-off event is not answered", Text(text::cut_off_unanswered)),
+    ("replay: numbers wrap at 65,536", Text(text::numbers_wrap)),
+    ("replay: lower-case digits", Text(text::lower_case)),
+    ("replay: goes on after an answer 4", Text(text::goes_on)),
+];
+
+/// How many mutants there are.
+pub const COUNT: usize = MUTANTS.len();
+
+/// What a mutant does wrong.
+pub fn name(number: usize) -> &'static str {
+    MUTANTS[number - 1].0
+}
+
+/// The text that a mutant makes of a trace.
+pub fn replay(number: usize, trace: &[u8]) -> Vec<u8> {
+    match &MUTANTS[number - 1].1 {
+        Text(text) => text(trace),
+        Step(step) => {
+            let mut memory = 0;
+            replay_with(trace, |unit, tapes, event| {
+                let outcome =
+                    Outcome { answer: Answer::OutOfStep, byte: None, lines: Lines::default() };
+                let memory = &mut memory;
+                let mut scene = Scene { unit, tapes, event, outcome, lines: None, memory };
+                step(&mut scene);
+                scene.outcome.lines = scene.lines.unwrap_or(scene.unit.lines());
+                scene.outcome
+            })
+        }
+    }
+}
+
+impl Scene<'_> {
+    /// The true step.
+    fn go(&mut self) {
+        self.outcome = self.unit.step(self.tapes, self.event);
+    }
+
+    /// The true step, and the record before it.
+    fn go_from(&mut self) -> Unit {
+        let before = self.unit.clone();
+        self.go();
+        before
+    }
+
+    fn at(&self) -> usize {
+        self.unit.selected as usize
+    }
+
+    fn is(&self, kind: u8) -> bool {
+        self.event[0] == kind && self.event.len() == events::length(kind)
+    }
+
+    /// This command, at Rest.
+    fn commands(&self, octet: u8) -> bool {
+        self.is(0x01) && self.event[1] == octet && self.unit.phase == Phase::Rest
+    }
+
+    fn taken(&self) -> bool {
+        matches!(self.outcome.answer, Answer::Taken | Answer::Exception)
+    }
+}

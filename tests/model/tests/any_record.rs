@@ -1,0 +1,35 @@
+//! The model is total, and what it refuses it leaves alone, whatever the record and the tapes.
+
+use model::compare::random::Random;
+use model::compare::records::{any_event, any_tapes, any_unit};
+use model::{Answer, Lines};
+
+#[test]
+fn every_event_in_every_record_has_an_outcome_that_keeps_to_the_frame() {
+    let mut random = Random::new(20);
+    let mut seen = [0; 7];
+    for _ in 0..40 {
+        let fresh = any_tapes(&mut random);
+        for _ in 0..5_000 {
+            let mut tapes = fresh.clone();
+            let mut unit = any_unit(&mut random, &tapes);
+            let event = any_event(&mut random);
+            let (before, lent) = (unit.clone(), tapes.clone());
+            let outcome = unit.step(&mut tapes, &event);
+            seen[outcome.answer as usize] += 1;
+            let refused = !matches!(outcome.answer, Answer::Taken | Answer::Exception);
+            assert_eq!(before.impossible(), outcome.answer == Answer::ImpossibleRecord);
+            assert!(!refused || (unit == before && tapes == lent && outcome.byte.is_none()));
+            assert!(refused || !unit.impossible());
+            assert!(outcome.byte.is_none() || event == [0x03]);
+            let five = outcome.answer == Answer::ImpossibleRecord;
+            assert_eq!(outcome.lines, if five { Lines::default() } else { unit.lines() });
+            for at in 0..4 {
+                assert_eq!(tapes[at].len(), lent[at].len());
+                assert!(tapes[at] == lent[at] || before.selected == at as u64);
+            }
+        }
+    }
+    // All answers came but 6, which needs tapes too long to make so often.
+    assert!(seen[..6].iter().all(|&count| count > 1_000), "{seen:?}");
+}
