@@ -7,3 +7,5 @@ mod Turning
 mod Playing
 mod Keeping
 pub mod Piecewise
+pub mod Forms
+pub mod Firsts

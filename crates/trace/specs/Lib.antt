@@ -4,3 +4,5 @@ pub mod Play
 pub mod Rest
 pub mod Outcomes
 pub mod Pieces
+pub mod Form
+pub mod Book
