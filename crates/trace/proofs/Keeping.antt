@@ -1,6 +1,6 @@
 -- Laws of bytes moved to the front of a buffer, one after the other.
 use Prim.Native.Nat.{ℕ, zero, suc, _+_, _-_, _≤_, _<_}
-use mathlib.Core.Bool.{Bool, true, false, _&&_, false≢true}
+use mathlib.Core.Bool.{true, _&&_}
 use mathlib.Core.List.{List, [], _∷_, _++_}
 use mathlib.Core.Path.{_≡_, refl, sym, ap, _∙_}
 use native.Mathlib.Numerals.{add-one}
@@ -10,6 +10,7 @@ use lib.ListN.{length, take, drop, getD, set, length-drop}
 use lib.Seq.{length-take-le, getD-append-add, getD-drop, drop-cons, set-at, append-snoc, take-suc}
 use borrow.Author.Tests.{leb-true}
 use Rattle.trace.specs.Rest.{movedFront}
+use Rattle.trace.proofs.Choosing.{both}
 
 pub front-start : (b : List ℕ) (from : ℕ) → b ≡ movedFront b from 0
 unfolding movedFront
@@ -47,9 +48,5 @@ module _ (b : List ℕ) (from i : ℕ) (h : from + i < length b) where
 
 -- What a test of both bounds told.
 pub both-bounds : (from to n : ℕ) → (leb from to && leb to n) ≡ true → (from ≤ to) × (to ≤ n)
-both-bounds from to n p = go (leb from to) (leb to n) refl refl p
-  where
-    go : (x y : Bool) → leb from to ≡ x → leb to n ≡ y → (x && y) ≡ true → (from ≤ to) × (to ≤ n)
-    go true true e f q = (leb-true from to e, leb-true to n f)
-    go true false e f q = absurd (false≢true q)
-    go false y e f q = absurd (false≢true q)
+both-bounds from to n p =
+    let q = both (leb from to) (leb to n) p in (leb-true from to (q .0), leb-true to n (q .1))

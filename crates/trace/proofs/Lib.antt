@@ -9,3 +9,4 @@ mod Keeping
 pub mod Piecewise
 pub mod Forms
 pub mod Firsts
+pub mod Sampled

@@ -1,8 +1,8 @@
 -- One event answered and shown: what the step and the line leave is the turn.
 use Prim.Native.Nat.{ℕ, _+_, _≤_, _<_}
-use mathlib.Core.Bool.{Bool, true, false, _&&_, false≢true}
+use mathlib.Core.Bool.{true}
 use mathlib.Core.List.{List}
-use mathlib.Core.Path.{_≡_, refl, sym, ap}
+use mathlib.Core.Path.{_≡_, sym, ap}
 use lib.Dec.{ltb, leb}
 use lib.ListN.{length}
 use borrow.Author.Tests.{ltb-true, leb-true}
@@ -11,13 +11,9 @@ use Rattle.rules.specs.declared.answer.Turn.{Turn}
 use Rattle.rules.specs.Unit.{Lent}
 use Rattle.rules.specs.Step.{Stepped, Steps}
 use Rattle.rules.specs.Run.{world, after, turnOf}
+use Rattle.trace.proofs.Choosing.{both}
 use Rattle.trace.specs.Line.{lineOf, lineSize, placed}
 use Rattle.trace.specs.Play.{lastNumber, hasRoom, stops, lineIn, Turned, turn}
-
-both : (a b : Bool) → (a && b) ≡ true → (a ≡ true) × (b ≡ true)
-both true true p = (refl, refl)
-both true false p = absurd (false≢true p)
-both false b p = absurd (false≢true p)
 
 -- Where there is room, the number fits, and the line ends inside the buffer.
 pub room-fits : (room full n : ℕ) → hasRoom room full n ≡ true → (n < lastNumber) × (full + lineSize (n + 1) ≤ room)

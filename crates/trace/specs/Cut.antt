@@ -8,9 +8,29 @@ use Rattle.tape.specs.Choice.{pick}
 use Rattle.trace.specs.declared.cut.Cut.{Cut}
 use Rattle.trace.specs.declared.cut.Cut.the-variants.{Whole, UnknownKind, CutOff, NoneLeft}
 
--- The bytes of an event by its kind: 03 to 06 have no body, the others of 01 to 0A a body of one byte. 0: a kind unknown.
+-- The kinds are 01 to 0A; those from 03 to 06 have no body, the others one of one byte.
+abbrev pub firstKind : ℕ
+firstKind = 1
+
+abbrev pub firstBare : ℕ
+firstBare = 3
+
+abbrev pub lastBare : ℕ
+lastBare = 6
+
+abbrev pub lastKind : ℕ
+lastKind = 10
+
+-- An event of its kind alone, and one with a body.
+abbrev pub bareSize : ℕ
+bareSize = 1
+
+abbrev pub bodiedSize : ℕ
+bodiedSize = 2
+
+-- The bytes of an event by its kind; 0 if the kind is unknown.
 unfoldable pub kindSize : ℕ → ℕ
-kindSize k = pick (leb 3 k && leb k 6) 1 (pick (leb 1 k && leb k 10) 2 0)
+kindSize k = pick (leb firstBare k && leb k lastBare) bareSize (pick (leb firstKind k && leb k lastKind) bodiedSize 0)
 
 -- What n bytes begin with, where the first is of a kind with this size.
 unfoldable pub cutBy : ℕ → ℕ → Cut
@@ -23,7 +43,7 @@ cutOf l = pick (eqb (length l) 0) NoneLeft (cutBy (kindSize (getD l 0 0)) (lengt
 -- The bytes that are answered as one event, of n bytes cut so; 0: none yet. An unknown kind is an event of one byte; where the input ends, what is cut off is one event.
 abbrev pub answered : Bool → ℕ → Cut → ℕ
 answered ending n (Whole size) = size
-answered ending n UnknownKind = 1
+answered ending n UnknownKind = bareSize
 answered ending n CutOff = pick ending n 0
 answered ending n NoneLeft = 0
 

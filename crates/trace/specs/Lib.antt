@@ -6,3 +6,4 @@ pub mod Outcomes
 pub mod Pieces
 pub mod Form
 pub mod Book
+pub mod Sample

@@ -1,5 +1,5 @@
 -- One answered event as a line: number, answer, lines, byte, each byte of it.
-use Prim.Native.Nat.{ℕ, zero, suc, _+_, _/_, _%_}
+use Prim.Native.Nat.{ℕ, zero, suc, _+_, _-_, _/_, _%_}
 use mathlib.Core.Bool.{Bool, true, false}
 use mathlib.Core.List.{List, [], _∷_, _++_}
 use lib.ListN.{length, take, drop}
@@ -11,7 +11,7 @@ use Rattle.rules.specs.Answer.{rowOf}
 use Rattle.trace.specs.declared.line.Shown.{Shown}
 use Rattle.trace.specs.declared.line.Shown.the-variants.{Next, NoRoom}
 
--- The characters of a line that are no digits.
+-- The characters of a line.
 abbrev pub newline : ℕ
 newline = 10
 
@@ -20,6 +20,12 @@ space = 32
 
 abbrev pub dash : ℕ
 dash = 45
+
+abbrev pub digit0 : ℕ
+digit0 = 48
+
+abbrev pub letterA : ℕ
+letterA = 65
 
 abbrev pub letterD : ℕ
 letterD = 68
@@ -32,7 +38,7 @@ letterR = 82
 
 -- A digit below 16: 0 to 9, then upper-case A to F.
 unfoldable pub digit : ℕ → ℕ
-digit d = pick (ltb d 10) (48 + d) (55 + d)
+digit d = pick (ltb d 10) (digit0 + d) (letterA - 10 + d)
 
 -- A number in decimal, the highest digit first: the digits of a tenth of it, then its last. It has no more digits than fuel suc n.
 abbrev pub digitsBy : ℕ → ℕ → List ℕ

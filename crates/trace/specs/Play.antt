@@ -31,8 +31,11 @@ unfoldable pub lineIn : World → List ℕ → ℕ → List ℕ
 lineIn w e n = lineOf n (turnOf w e .answer) (turnOf w e .lines) (turnOf w e .given) (turnOf w e .byte)
 
 -- After an answer 4 reading stops.
+abbrev pub stopNumber : ℕ
+stopNumber = 4
+
 unfoldable pub stops : Answer → Bool
-stops a = eqb (rowOf a .number) 4
+stops a = eqb (rowOf a .number) stopNumber
 
 -- A run: the world that it leaves, the bytes that its events took, the count of events answered in all, why it halted, the text of its lines.
 pub record Run : Type 0 where

@@ -11,6 +11,7 @@ const LAST_BARE: u8 = 0x06;
 
 const LAST_KIND: u8 = 0x0A;
 
+// An event of its kind alone, and one with a body.
 const BARE_SIZE: usize = 1;
 
 const BODIED_SIZE: usize = 2;
@@ -60,7 +61,7 @@ pub(crate) fn next_size(bytes: &[u8], ending: bool) -> usize
 {
     match next_event(bytes) {
         Cut::Whole(size) => size,
-        Cut::UnknownKind => 1,
+        Cut::UnknownKind => BARE_SIZE,
         Cut::CutOff => if ending { bytes.len() } else { 0 },
         Cut::NoneLeft => 0,
     }

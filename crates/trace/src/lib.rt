@@ -1,6 +1,7 @@
 // Raw traces: where each event ends, what a run over them leaves, and the text that tells of it.
 mod cut;
 mod line;
+mod number;
 mod rest;
 mod run;
 

@@ -1,19 +1,16 @@
 // One answered event as a line: number, answer, lines and byte.
 ghost use mathlib.Core.Path.{_≡_};
-ghost use Prim.Native.Nat.{_+_, _≤_, _<_};
+ghost use Prim.Native.Nat.{_+_, _≤_};
 ghost use lib.ListN.{length};
-ghost use Rattle.trace.specs.Line.{digit, decimal, orDash, fieldsOf, fieldsSize, lineOf, lineSize, placed, page, shownAt};
+ghost use Rattle.trace.specs.Line.{orDash, fieldsOf, lineOf, lineSize, placed, page, shownAt};
+use crate::number::digit;
+use crate::number::places;
+use crate::number::put_number;
 use rules::Answer;
 use rules::Lines;
 
-// The bases of a number and of a byte.
-const TEN: u64 = 10;
-
+// The base of a byte's digits.
 const SIXTEEN: u8 = 16;
-
-const DIGIT_0: u8 = b'0';
-
-const DIGIT_A: u8 = b'A';
 
 const DASH: u8 = b'-';
 
@@ -36,46 +33,7 @@ pub enum Shown {
     NoRoom,
 }
 
-// A digit of a number in decimal or upper-case hex.
-fn digit(d: u8) -> u8
-    requires { ⌜ d < 16 ⌝ }
-    ensures { λ r. ⌜ r ≡ digit d ⌝ }
-{
-    if d < 10 {
-        DIGIT_0 + d
-    } else {
-        DIGIT_A - 10 + d
-    }
-}
-
-// How many digits a number has in decimal.
-pub(crate) fn places(n: u64) -> usize
-    ensures { λ r. ⌜ r ≡ length (decimal n) ⌝ }
-{
-    let mut k: usize = 1;
-    let mut rest = n;
-    while TEN <= rest {
-        rest /= TEN;
-        k += 1;
-    }
-    k
-}
-
-// A number of k digits, from its last digit to its first.
-fn put_number(out: &mut [u8], at: usize, n: u64, k: usize)
-    requires { ⌜ (k ≡ length (decimal n)) × (at + k ≤ length (now out)) ⌝ }
-    ensures { λ _. ⌜ now (out .exit) ≡ placed (now (out .entry)) at (decimal n) ⌝ }
-{
-    let mut i = k;
-    let mut rest = n;
-    while TEN <= rest {
-        i -= 1;
-        out[at + i] = digit((rest % TEN) as u8);
-        rest /= TEN;
-    }
-    out[at] = digit(rest as u8);
-}
-
+// A character where something is so, else a dash.
 fn or_dash(b: bool, character: u8) -> u8
     ensures { λ r. ⌜ r ≡ orDash b character ⌝ }
 {

@@ -8,8 +8,8 @@ ghost use Rattle.rules.specs.Run.{world};
 ghost use Rattle.trace.specs.Play.{hasRoom, stops, turned, turn, Plays};
 use crate::cut::next_size;
 use crate::line::FIELDS;
-use crate::line::places;
 use crate::line::put_line;
+use crate::number::places;
 use rules::Answer;
 use rules::Core;
 use tape::BODY;
@@ -87,6 +87,7 @@ fn answer_event(
     }
 }
 
+// What a run hands back where it halts.
 fn hand_back(core: Core, used: usize, written: usize, count: u64, halt: Halt) -> Played
     ensures { λ r. ⌜ r ≡ record { core = core; used = used; written = written; count = count; halt = halt } ⌝ }
 {

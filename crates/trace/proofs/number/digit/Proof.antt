@@ -2,8 +2,8 @@ use Rattle.tape.specs.Choice.{pick}
 use Rattle.trace.specs.Line.{digit}
 use borrow.Author.Needs.{needs}
 use borrow.Author.Tests.{le-ltb, lt-ltb}
-use Rattle.trace.proofs.line.digit.Statement.{statement}
-use Rattle.trace.proofs.line.digit.Tie as tie
+use Rattle.trace.proofs.number.digit.Statement.{statement}
+use Rattle.trace.proofs.number.digit.Tie as tie
 
 add-result : tie.Need-add-result
 add-result c = search needs

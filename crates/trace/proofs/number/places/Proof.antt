@@ -5,8 +5,8 @@ use lib.ListN.{length}
 use mathlib.Core.Path.{_≡_, ap}
 use native.Mathlib.Nat.{div-lt-self}
 use native.Mathlib.Omega.{arith}
-use Rattle.trace.proofs.line.places.Statement.{statement}
-use Rattle.trace.proofs.line.places.Tie as tie
+use Rattle.trace.proofs.number.places.Statement.{statement}
+use Rattle.trace.proofs.number.places.Tie as tie
 
 abbrev Inv-loop : tie.InvT-loop
 Inv-loop n k₀ rest₀ k rest = (k + length (decimal rest) ≡ length (decimal n) + 1) × (k + rest ≤ n + 1)

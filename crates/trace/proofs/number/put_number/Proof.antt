@@ -9,8 +9,8 @@ use mathlib.Core.List.{List}
 use mathlib.Core.Path.{_∙_, _≡_, ap, refl, sym}
 use native.Mathlib.Nat.{div-lt-self, mod-lt}
 use native.Mathlib.Omega.{arith}
-use Rattle.trace.proofs.line.put_number.Statement.{statement}
-use Rattle.trace.proofs.line.put_number.Tie as tie
+use Rattle.trace.proofs.number.put_number.Statement.{statement}
+use Rattle.trace.proofs.number.put_number.Tie as tie
 
 abbrev Inv-loop : tie.InvT-loop
 Inv-loop out₀ at n k i₀ rest₀ out i rest = (i ≡ length (decimal rest)) × (i ≤ k) × (length out ≡ length out₀) × (sets out at (decimal rest) ≡ sets out₀ at (decimal n))
