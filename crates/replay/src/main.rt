@@ -30,6 +30,7 @@ fn write(text: &[u8]) -> bool {
     done
 }
 
+// Nothing more is run.
 fn over() -> Piece
     ensures { λ r. ⌜ (r .from ≤ r .to) × (r .to ≤ 0) ⌝ }
 {
@@ -41,7 +42,7 @@ fn over() -> Piece
     }
 }
 
-// Reads once behind what was left over.
+// Reads once, behind what was left over. A read that fails is said, and what was left over is no event.
 fn read_more(input: &mut [u8], from: usize, to: usize) -> Piece
     ensures { λ r. ⌜ (r .from ≤ r .to) × (r .to ≤ length (now (input .entry))) ⌝ }
 {

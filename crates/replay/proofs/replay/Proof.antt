@@ -9,10 +9,13 @@ use Rattle.replay.proofs.replay.Statement.{statement}
 use Rattle.replay.proofs.replay.Tie as tie
 
 abbrev Inv-loop : tie.InvT-loop
-Inv-loop staging₀ tape0₀ tape1₀ tape2₀ tape3₀ input₀ out₀ core₀ count₀ from₀ to₀ ending₀ going₀ turns₀ staging tape0 tape1 tape2 tape3 input out core count from to ending going turns = (from ≤ to) × (to ≤ length input) × (length input ≡ length input₀) × (length out ≡ length out₀) × (length tape0 ≡ length tape0₀) × (length tape1 ≡ length tape1₀) × (length tape2 ≡ length tape2₀) × (length tape3 ≡ length tape3₀)
+Inv-loop staging₀ tape0₀ tape1₀ tape2₀ tape3₀ input₀ out₀ core₀ count₀ from₀ to₀ ending₀ going₀ turns₀ staging tape0 tape1 tape2 tape3 input out core count from to ending going turns =
+    (from ≤ to) × (to ≤ length input) × (length input ≡ length input₀) × (length out ≡ length out₀)
+    × (length tape0 ≡ length tape0₀) × (length tape1 ≡ length tape1₀) × (length tape2 ≡ length tape2₀) × (length tape3 ≡ length tape3₀)
 
 abbrev μ-loop : tie.MeasureT-loop
-μ-loop staging₀ tape0₀ tape1₀ tape2₀ tape3₀ input₀ out₀ core₀ count₀ from₀ to₀ ending₀ going₀ turns₀ staging tape0 tape1 tape2 tape3 input out core count from to ending going turns = turns
+μ-loop staging₀ tape0₀ tape1₀ tape2₀ tape3₀ input₀ out₀ core₀ count₀ from₀ to₀ ending₀ going₀ turns₀ staging tape0 tape1 tape2 tape3 input out core count from to ending going turns =
+    turns
 
 fresh-requires : tie.Need-fresh-requires Inv-loop μ-loop
 fresh-requires c κs = search needs

@@ -12,10 +12,13 @@ use Rattle.trace.proofs.run.play.Statement.{statement}
 use Rattle.trace.proofs.run.play.Tie as tie
 
 abbrev Inv-loop : tie.InvT-loop
-Inv-loop staging₀ tape0₀ tape1₀ tape2₀ tape3₀ input ending count out₀ c₀ used₀ written₀ n₀ staging tape0 tape1 tape2 tape3 out c used written n = Runs c₀ (lent staging₀ tape0₀ tape1₀ tape2₀ tape3₀) input ending n₀ out₀ (world c (lent staging tape0 tape1 tape2 tape3)) used written n out × (length tape0 ≡ length tape0₀) × (length tape1 ≡ length tape1₀) × (length tape2 ≡ length tape2₀) × (length tape3 ≡ length tape3₀)
+Inv-loop staging₀ tape0₀ tape1₀ tape2₀ tape3₀ input ending count out₀ c₀ used₀ written₀ n₀ staging tape0 tape1 tape2 tape3 out c used written n =
+    Runs c₀ (lent staging₀ tape0₀ tape1₀ tape2₀ tape3₀) input ending n₀ out₀ (world c (lent staging tape0 tape1 tape2 tape3)) used written n out
+    × (length tape0 ≡ length tape0₀) × (length tape1 ≡ length tape1₀) × (length tape2 ≡ length tape2₀) × (length tape3 ≡ length tape3₀)
 
 abbrev μ-loop : tie.MeasureT-loop
-μ-loop staging₀ tape0₀ tape1₀ tape2₀ tape3₀ input ending count out₀ c₀ used₀ written₀ n₀ staging tape0 tape1 tape2 tape3 out c used written n = length input - used
+μ-loop staging₀ tape0₀ tape1₀ tape2₀ tape3₀ input ending count out₀ c₀ used₀ written₀ n₀ staging tape0 tape1 tape2 tape3 out c used written n =
+    length input - used
 
 loop-holds : tie.Need-loop-holds Inv-loop μ-loop
 loop-holds c = (at-start _ _ _ _ _ _, refl, refl, refl, refl)
