@@ -3,6 +3,8 @@ ghost use mathlib.Core.Path.{_≡_};
 ghost use lib.Dec.{eqb};
 ghost use Rattle.rules.specs.Unit.{driveAt, putDrive, atPhase};
 ghost use Rattle.rules.specs.Slot.{befallen, isOut, partDropped, phaseAfter};
+use count::errors_raised;
+use count::underruns_raised;
 use rules::Core;
 use rules::Drive;
 use rules::Phase;
@@ -49,8 +51,8 @@ fn befall(drive: Drive, what: What) -> Drive
     match what {
         What::In(plug) => drive.load(plug),
         What::Out => drive.unload(),
-        What::Error => drive.count_error(),
-        What::Underrun => drive.count_underrun(),
+        What::Error => errors_raised(drive),
+        What::Underrun => underruns_raised(drive),
     }
 }
 

@@ -17,14 +17,14 @@ unload-requires c κs = search needs
 enum-told-2 : tie.Need-enum-told-2
 enum-told-2 c = search needs
 
-count-error-requires : tie.Need-count-error-requires
-count-error-requires c κs = search needs
+errors-raised-requires : tie.Need-errors-raised-requires
+errors-raised-requires c κs = search needs
 
 enum-told-3 : tie.Need-enum-told-3
 enum-told-3 c = search needs
 
-count-underrun-requires : tie.Need-count-underrun-requires
-count-underrun-requires c κs = search needs
+underruns-raised-requires : tie.Need-underruns-raised-requires
+underruns-raised-requires c κs = search needs
 
 returns : tie.Need-returns
 returns c = rw (c .load .ensures, c .before .before .what .given .1)
@@ -33,10 +33,10 @@ returns-2 : tie.Need-returns-2
 returns-2 c = rw (c .unload .ensures, c .before .enum-told .given .1)
 
 returns-3 : tie.Need-returns-3
-returns-3 c = rw (c .count-error .ensures, c .before .enum-told2 .given .1)
+returns-3 c = rw (c .errors-raised .ensures, c .before .enum-told2 .given .1)
 
 returns-4 : tie.Need-returns-4
-returns-4 c = rw (c .count-underrun .ensures, c .before .enum-told3 .given .1)
+returns-4 c = rw (c .underruns-raised .ensures, c .before .enum-told3 .given .1)
 
 pub befall-spec : {M : Type 1} → statement M
 befall-spec =
@@ -47,9 +47,9 @@ befall-spec =
     enum-told
     unload-requires
     enum-told-2
-    count-error-requires
+    errors-raised-requires
     enum-told-3
-    count-underrun-requires
+    underruns-raised-requires
     returns
     returns-2
     returns-3

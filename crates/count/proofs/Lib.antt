@@ -1,0 +1,5 @@
+mod Values
+mod Promised
+mod Raising
+mod Lending
+pub mod Outcomes
