@@ -1,0 +1,19 @@
+-- What a buffer that is a record has.
+use Prim.Native.Nat.{ℕ}
+use mathlib.Core.Path.{_≡_}
+use mathlib.Core.Bool.{Bool, true}
+use mathlib.Core.List.{List}
+use lib.ListN.{length}
+use borrow.Author.Tests.{eqb-true}
+use Rattle.rules.proofs.Bools.{both}
+use Rattle.board.specs.Written.{recordSize}
+use Rattle.board.specs.Read.{isRecord}
+use Rattle.board.specs.Serve.{holds}
+
+pub record-long : (l : List ℕ) → isRecord l ≡ true → length l ≡ recordSize
+unfolding isRecord
+record-long l so = eqb-true (length l) recordSize (both _ _ so .0)
+
+pub held-long : (l : List ℕ) → holds l ≡ true → length l ≡ recordSize
+unfolding holds
+held-long l so = record-long l (both _ _ so .0)

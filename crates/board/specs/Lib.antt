@@ -1,0 +1,4 @@
+pub mod Number
+pub mod Written
+pub mod Read
+pub mod Serve

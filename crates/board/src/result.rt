@@ -1,0 +1,37 @@
+// What a call writes into the result that it is lent.
+ghost use mathlib.Core.Path.{_≡_};
+ghost use mathlib.Core.List.{_∷_};
+ghost use Rattle.rules.specs.Answer.{rowOf};
+ghost use Rattle.board.specs.Written.{flag};
+ghost use Rattle.board.specs.Serve.{linesBytes, noRecord};
+use crate::LINES;
+use crate::RESULT;
+use crate::write::flag;
+use rules::Answer;
+use rules::Lines;
+use unit::number;
+
+pub(crate) fn lines_bytes(lines: Lines) -> [u8; LINES]
+    ensures { λ r. ⌜ r ≡ linesBytes lines ⌝ }
+{
+    [
+        flag(lines.ready),
+        flag(lines.exception),
+        flag(lines.direction),
+    ]
+}
+
+// The answer's number, whether a byte was given, the byte, the lines.
+pub(crate) fn result_bytes(answer: Answer, given: bool, byte: u8, lines: Lines) -> [u8; RESULT]
+    ensures { λ r. ⌜ r ≡ rowOf answer .number ∷ flag given ∷ byte ∷ linesBytes lines ⌝ }
+{
+    let l = lines_bytes(lines);
+    [number(answer), flag(given), byte, l[0], l[1], l[2]]
+}
+
+// 5, no byte, the lines down.
+pub(crate) fn no_record() -> [u8; RESULT]
+    ensures { λ r. ⌜ r ≡ noRecord ⌝ }
+{
+    [number(Answer::Impossible), 0, 0, 0, 0, 0]
+}
