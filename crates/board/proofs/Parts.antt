@@ -9,8 +9,9 @@ use lib.Seq.{take-length, length-take-le, take-all, take-at, drop-drop, drop-con
 use Rattle.rules.specs.declared.drive.Drive.{Drive}
 use Rattle.rules.specs.declared.unit.Port.{Port}
 use Rattle.rules.specs.declared.unit.Core.{Core}
+use Rattle.rules.specs.Unit.{reportSize}
 use Rattle.board.specs.Number.{two, eight}
-use Rattle.board.specs.Written.{flag, modeByte, phaseByte, phaseNumber, driveBytes, portBytes, placed, unit, unitBytes, driveSize, recordSize}
+use Rattle.board.specs.Written.{flag, modeByte, phaseByte, phaseNumber, driveBytes, portBytes, placed, unit, unitBytes, portSize, driveSize, recordSize}
 use Rattle.board.specs.Read.{stretch}
 
 -- a part copied over an array of its size is that part
@@ -44,7 +45,7 @@ each-is (suc n) k l fits =
     ap (λ (r : List ℕ). getD l k 0 ∷ r) (each-is n (suc k) l (omega arith)) ∙ ap (take (suc n)) (sym (drop-cons l k 0 (omega arith)))
 
 -- six octets are their list
-six : (o : List ℕ) → length o ≡ 6 → getD o 0 0 ∷ getD o 1 0 ∷ getD o 2 0 ∷ getD o 3 0 ∷ getD o 4 0 ∷ getD o 5 0 ∷ [] ≡ o
+pub six : (o : List ℕ) → length o ≡ 6 → getD o 0 0 ∷ getD o 1 0 ∷ getD o 2 0 ∷ getD o 3 0 ∷ getD o 4 0 ∷ getD o 5 0 ∷ [] ≡ o
 six o size = each-is 6 0 o (omega (arith, size)) ∙ take-all 6 o (omega (arith, size))
 
 pub drive-listed : (d : Drive) (h e u : List ℕ) (a b m x c0 c1 c2 c3 c4 c5 c6 : ℕ)
@@ -106,6 +107,10 @@ all-written r c g wrote =
     let whole : r ≡ ((((p ++ d0) ++ d1) ++ d2) ++ d3) ++ g = sym (take-all recordSize r (omega (arith, wrote .size))) ∙ wrote .front in
     whole ∙ append-assoc (((p ++ d0) ++ d1) ++ d2) d3 g ∙ append-assoc ((p ++ d0) ++ d1) d2 (d3 ++ g) ∙ append-assoc (p ++ d0) d1 (d2 ++ (d3 ++ g))
     ∙ append-assoc p d0 (d1 ++ (d2 ++ (d3 ++ g)))
+
+pub port-long : (p : Port) → length (p .octets) ≡ reportSize → length (portBytes p) ≡ portSize
+unfolding portBytes
+port-long p size = ap (λ (k : ℕ). suc (suc (suc (suc (suc (suc (suc (suc (suc (suc (suc (suc (suc (suc (suc (suc (suc (suc (suc k))))))))))))))))))) size
 
 pub drive-long : (d : Drive) → length (driveBytes d) ≡ driveSize
 unfolding driveBytes

@@ -14,7 +14,7 @@ use Rattle.rules.specs.Answer.{rowOf}
 use Rattle.rules.specs.Lines.{linesOf, linesDown}
 use Rattle.rules.specs.Refusal.{possible}
 use Rattle.rules.specs.Step.{Steps}
-use Rattle.board.specs.Written.{recordSize, flag, unit, unitBytes}
+use Rattle.board.specs.Written.{recordSize, flag, unit, Sized, unitBytes}
 use Rattle.board.specs.Read.{isRecord, coreOf, stagingOf}
 
 -- The four tapes; with the staging block they are what a step is lent.
@@ -48,6 +48,7 @@ pub record Served (l : List ℕ) (t : Tapes) (event out l′ : List ℕ) (t′ :
   pub steps : Steps (coreOf l) (lentWith (stagingOf l) t) event turn (lentWith staging t′)
   pub result : out ≡ resultBytes turn
   pub left : l′ ≡ unitBytes (unit (turn .core) staging)
+  pub sized : Sized (unit (turn .core) staging)
 
 -- A buffer that is none: all as found.
 pub record NotServed (l : List ℕ) (t : Tapes) (out l′ : List ℕ) (t′ : Tapes) : Type 0 where

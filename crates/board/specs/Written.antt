@@ -1,8 +1,10 @@
 -- The record of a unit written as bytes, field by field.
 use Prim.Native.Nat.{ℕ, _+_}
+use mathlib.Core.Path.{_≡_}
 use mathlib.Core.Bool.{Bool, true, false}
 use mathlib.Core.List.{List, [], _∷_, _++_}
 use lib.ListN.{length, take, drop}
+use Rattle.tape.specs.Record.{bodySize}
 use Rattle.rules.specs.declared.drive.Drive.{Drive}
 use Rattle.rules.specs.declared.drive.Latched.{Latched}
 use Rattle.rules.specs.declared.drive.Mode.{Mode}
@@ -12,6 +14,7 @@ use Rattle.rules.specs.declared.unit.Phase.the-variants.{Rest, Taking, Giving, 
 use Rattle.rules.specs.declared.unit.Port.{Port}
 use Rattle.rules.specs.declared.unit.Core.{Core}
 use Rattle.rules.specs.declared.unit.Unit.{Unit}
+use Rattle.rules.specs.Unit.{reportSize}
 use Rattle.board.specs.Number.{two, eight}
 
 -- The first byte of every record.
@@ -71,6 +74,11 @@ placed r at b = take at r ++ b ++ drop (at + length b) r
 -- A unit is its core and its staging block.
 abbrev pub unit : Core → List ℕ → Unit
 unit c g = record { core = c; staging = g }
+
+-- The octets and the staging block have as many bytes as their types say.
+pub record Sized (u : Unit) : Type 0 where
+  pub octets : length (u .core .port .octets) ≡ reportSize
+  pub staging : length (u .staging) ≡ bodySize
 
 unfoldable pub unitBytes : Unit → List ℕ
 unitBytes u =

@@ -2,7 +2,8 @@
 ghost use mathlib.Core.Path.{_≡_};
 ghost use Prim.Native.Nat.{_+_, _≤_};
 ghost use lib.ListN.{length};
-ghost use Rattle.board.specs.Written.{flag, modeByte, phaseByte, phaseNumber, driveBytes, portBytes, placed, unit, unitBytes, portSize, driveSize, recordSize};
+ghost use Rattle.rules.specs.Unit.{reportSize};
+ghost use Rattle.board.specs.Written.{flag, modeByte, phaseByte, phaseNumber, driveBytes, portBytes, placed, unit, Sized, unitBytes, portSize, driveSize, recordSize};
 use crate::DRIVE;
 use crate::DRIVE_0;
 use crate::DRIVE_1;
@@ -140,7 +141,7 @@ fn put(buffer: &mut [u8], at: usize, bytes: &[u8])
 fn put_port(buffer: &mut [u8], port: Port)
     requires { do ⌜ portSize ≤ (← ⟦buffer.len()⟧) ⌝ }
     ensures { λ _. ⌜ now (buffer .exit) ≡ placed (now (buffer .entry)) 0 (portBytes port) ⌝ }
-    ensures { λ _. ⌜ length (portBytes port) ≡ portSize ⌝ }
+    ensures { λ _. ⌜ length (port .octets) ≡ reportSize ⌝ }
 {
     let bytes = port_bytes(port);
     put(buffer, 0, &bytes);
@@ -158,6 +159,7 @@ fn put_drive(buffer: &mut [u8], at: usize, drive: Drive)
 pub(crate) fn write(buffer: &mut [u8], core: Core, staging: &[u8; BODY])
     requires { do ⌜ (← ⟦buffer.len()⟧) ≡ recordSize ⌝ }
     ensures { λ _. ⌜ now (buffer .exit) ≡ unitBytes (unit core (now (staging .entry))) ⌝ }
+    ensures { λ _. ⌜ Sized (unit core (now (staging .entry))) ⌝ }
 {
     put_port(buffer, core.port);
     put_drive(buffer, DRIVE_0, core.drive0);

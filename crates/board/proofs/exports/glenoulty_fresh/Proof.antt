@@ -31,7 +31,7 @@ same-length c = search needs
 -- src/exports.rt:43:9
 returns : tie.Need-returns
 unfolding pick
-returns c = let here = eq-eqb _ _ (c .before .before .before .before .before .before .before .before .before .if1 .taken) in record { answer = rw (here) (c .number .ensures); left = rw (here) (c .before .before .before .write .ensures ∙ ap unitBytes (c .before .before .before .before .before .before .before .before .fresh .ensures)) }
+returns c = let here = eq-eqb _ _ (c .before .before .before .before .before .before .before .before .before .if1 .taken) in record { answer = rw (here) (c .number .ensures); left = rw (here) (c .before .before .before .write .ensures .0 ∙ ap unitBytes (c .before .before .before .before .before .before .before .before .fresh .ensures)) }
 
 -- src/exports.rt:45:5
 number-requires-2 : tie.Need-number-requires-2

@@ -52,7 +52,7 @@ same-length-5 c = search needs
 
 -- src/exports.rt:49:1
 returns : tie.Need-returns
-returns c = record { turn = c .before .before .before .before .before .before .before .before .before .before .before .before .before .before .step-core .result; staging = _; steps = rw (c .before .before .before .before .before .before .before .before .before .before .before .before .before .before .before .before .before .before .before .before .staging-of .ensures, c .before .before .before .before .before .before .before .before .before .before .before .before .before .before .before .before .before .before .before .before .before .before .core-of .ensures) at (c .before .before .before .before .before .before .before .before .before .before .before .before .before .before .step-core .ensures); result = c .result-bytes .ensures; left = c .before .before .before .write .ensures }
+returns c = record { turn = c .before .before .before .before .before .before .before .before .before .before .before .before .before .before .step-core .result; staging = _; steps = rw (c .before .before .before .before .before .before .before .before .before .before .before .before .before .before .before .before .before .before .before .before .staging-of .ensures, c .before .before .before .before .before .before .before .before .before .before .before .before .before .before .before .before .before .before .before .before .before .before .core-of .ensures) at (c .before .before .before .before .before .before .before .before .before .before .before .before .before .before .step-core .ensures); result = c .result-bytes .ensures; left = c .before .before .before .write .ensures .0; sized = c .before .before .before .write .ensures .1 }
 
 pub serve-spec : {M : Type 1} → statement M
 serve-spec =

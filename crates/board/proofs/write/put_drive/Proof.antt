@@ -25,7 +25,7 @@ same-length c = search needs
 
 -- src/write.rt:111:1
 returns : tie.Need-returns
-returns c = let a = c .before .before .before .before .before .before .before .args in rw (c .before .before .before .before .before .drive-bytes .ensures) at (c .before .before .put .ensures)
+returns c = rw (c .before .before .before .before .before .drive-bytes .ensures) at (c .before .before .put .ensures)
 
 pub put-drive-spec : {M : Type 1} → statement M
 put-drive-spec =

@@ -27,7 +27,7 @@ same-length c = search needs
 
 -- src/write.rt:102:1
 returns : tie.Need-returns
-returns c = let e = c .before .before .before .before .before .port-bytes .ensures in (rw (e) at (c .before .before .put .ensures), ap length (sym e) ∙ search needs)
+returns c = (rw (c .before .before .before .before .before .port-bytes .ensures) at (c .before .before .put .ensures), search needs)
 
 pub put-port-spec : {M : Type 1} → statement M
 put-port-spec =

@@ -1,3 +1,4 @@
+use Rattle.board.proofs.Parts.{port-long}
 use Rattle.board.proofs.Parts.{nothing-yet, put-on, drive-long, all-written}
 use Rattle.board.specs.Written.{portBytes, driveBytes}
 use native.Mathlib.Omega.{arith}
@@ -41,7 +42,7 @@ same-length c = search needs
 
 -- src/write.rt:120:1
 returns : tie.Need-returns
-returns c = let a = c .before .before .before .before .before .before .before .before .before .before .before .before .before .before .before .before .before .before .before .before .before .before .before .before .before .before .args in let k = a .core in let w1 = put-on (portBytes (k .port)) 0 25 (nothing-yet (a .buffer .now) (c .before .before .before .before .before .before .before .before .before .before .before .before .before .before .before .before .before .before .before .before .before .before .before .before .before .before .pre)) (c .before .before .before .before .before .before .before .before .before .before .before .before .before .before .before .before .before .before .before .before .before .before .before .put-port .ensures .1) (omega arith) (c .before .before .before .before .before .before .before .before .before .before .before .before .before .before .before .before .before .before .before .before .before .before .before .put-port .ensures .0) in let w2 = put-on (driveBytes (k .drive0)) 25 23 w1 (drive-long (k .drive0)) (omega arith) (c .before .before .before .before .before .before .before .before .before .before .before .before .before .before .before .before .before .before .before .put-drive .ensures) in let w3 = put-on (driveBytes (k .drive1)) 48 23 w2 (drive-long (k .drive1)) (omega arith) (c .before .before .before .before .before .before .before .before .before .before .before .before .before .before .before .put-drive2 .ensures) in let w4 = put-on (driveBytes (k .drive2)) 71 23 w3 (drive-long (k .drive2)) (omega arith) (c .before .before .before .before .before .before .before .before .before .before .before .put-drive3 .ensures) in let w5 = put-on (driveBytes (k .drive3)) 94 23 w4 (drive-long (k .drive3)) (omega arith) (c .before .before .before .before .before .before .before .put-drive4 .ensures) in all-written _ k (a .staging .now) (put-on (a .staging .now) 117 512 w5 (search needs) (omega arith) (c .before .before .put .ensures))
+returns c = let a = c .before .before .before .before .before .before .before .before .before .before .before .before .before .before .before .before .before .before .before .before .before .before .before .before .before .before .args in let k = a .core in let sized = c .before .before .before .before .before .before .before .before .before .before .before .before .before .before .before .before .before .before .before .before .before .before .before .put-port .ensures .1 in let w1 = put-on (portBytes (k .port)) 0 25 (nothing-yet (a .buffer .now) (c .before .before .before .before .before .before .before .before .before .before .before .before .before .before .before .before .before .before .before .before .before .before .before .before .before .before .pre)) (port-long (k .port) sized) (omega arith) (c .before .before .before .before .before .before .before .before .before .before .before .before .before .before .before .before .before .before .before .before .before .before .before .put-port .ensures .0) in let w2 = put-on (driveBytes (k .drive0)) 25 23 w1 (drive-long (k .drive0)) (omega arith) (c .before .before .before .before .before .before .before .before .before .before .before .before .before .before .before .before .before .before .before .put-drive .ensures) in let w3 = put-on (driveBytes (k .drive1)) 48 23 w2 (drive-long (k .drive1)) (omega arith) (c .before .before .before .before .before .before .before .before .before .before .before .before .before .before .before .put-drive2 .ensures) in let w4 = put-on (driveBytes (k .drive2)) 71 23 w3 (drive-long (k .drive2)) (omega arith) (c .before .before .before .before .before .before .before .before .before .before .before .put-drive3 .ensures) in let w5 = put-on (driveBytes (k .drive3)) 94 23 w4 (drive-long (k .drive3)) (omega arith) (c .before .before .before .before .before .before .before .put-drive4 .ensures) in (all-written _ k (a .staging .now) (put-on (a .staging .now) 117 512 w5 (search needs) (omega arith) (c .before .before .put .ensures)), record { octets = sized; staging = search needs })
 
 pub write-spec : {M : Type 1} → statement M
 write-spec =
