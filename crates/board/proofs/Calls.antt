@@ -15,13 +15,13 @@ use Rattle.rules.specs.Answer.{rowOf}
 use Rattle.rules.specs.Run.{World, world}
 use Rattle.unit.specs.Runs.{Ran, no-event, next}
 use Rattle.unit.proofs.Demands.{demands-hold}
-use Rattle.board.specs.Number.{byteAt}
-use Rattle.board.specs.Written.{unit, unitBytes}
-use Rattle.board.specs.Read.{isRecord, coreOf, stagingOf, unitOf}
+use Rattle.layout.specs.Number.{byteAt}
+use Rattle.layout.specs.Written.{unit, unitBytes}
+use Rattle.layout.specs.Read.{isRecord, coreOf, stagingOf, unitOf}
 use Rattle.board.specs.Serve.{Tapes, lentWith, resultBytes, Served, Serves, of-record, of-none, holds}
-use Rattle.board.specs.Laws.{Octets, FreshHeld, RefusedKeeps, Used, no-call, next-call, worldOf, AsUnit, CallsRun}
-use Rattle.board.proofs.Back.{read-back}
-use Rattle.board.proofs.Form.{one-form}
+use Rattle.board.specs.Laws.{FreshHeld, RefusedKeeps, Used, no-call, next-call, worldOf, AsUnit, CallsRun}
+use Rattle.layout.proofs.Back.{read-back}
+use Rattle.layout.proofs.Form.{one-form}
 use Rattle.board.proofs.Outcomes.{tapesIn}
 
 fresh-possible : possible (freshUnit .core) ≡ true

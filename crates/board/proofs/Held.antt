@@ -6,8 +6,8 @@ use mathlib.Core.List.{List}
 use lib.ListN.{length}
 use borrow.Author.Tests.{eqb-true}
 use Rattle.rules.proofs.Bools.{both}
-use Rattle.board.specs.Written.{recordSize}
-use Rattle.board.specs.Read.{isRecord}
+use Rattle.layout.specs.Written.{recordSize}
+use Rattle.layout.specs.Read.{isRecord}
 use Rattle.board.specs.Serve.{holds}
 
 pub record-long : (l : List ℕ) → isRecord l ≡ true → length l ≡ recordSize

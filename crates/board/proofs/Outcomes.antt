@@ -6,8 +6,8 @@ use mathlib.Core.List.{List}
 use Rattle.rules.specs.declared.answer.Turn.{Turn}
 use Rattle.rules.specs.Unit.{Lent}
 use Rattle.rules.proofs.Outcomes.{steps-once}
-use Rattle.board.specs.Written.{unit, unitBytes}
-use Rattle.board.specs.Read.{isRecord, coreOf, stagingOf}
+use Rattle.layout.specs.Written.{unit, unitBytes}
+use Rattle.layout.specs.Read.{isRecord, coreOf, stagingOf}
 use Rattle.board.specs.Serve.{Tapes, tapes, lentWith, resultBytes, Served, NotServed, Serves, of-record, of-none}
 use Rattle.board.specs.Outcomes.{OneOutcome}
 

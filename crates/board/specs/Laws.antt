@@ -1,28 +1,16 @@
--- A record and its bytes, and what calls over bytes come to.
-use Prim.Native.Nat.{ℕ, _<_, _≤_}
+-- What calls over bytes come to.
+use Prim.Native.Nat.{ℕ, _≤_}
 use mathlib.Core.Path.{_≡_}
 use mathlib.Core.Bool.{true}
 use mathlib.Core.List.{List, [], _∷_, map}
 use Rattle.rules.specs.declared.answer.Turn.{Turn}
-use Rattle.rules.specs.declared.unit.Unit.{Unit}
 use Rattle.rules.specs.Unit.{freshUnit}
 use Rattle.rules.specs.Run.{World, world}
 use Rattle.unit.specs.Runs.{Ran}
-use Rattle.board.specs.Number.{byteAt}
-use Rattle.board.specs.Written.{Sized, unitBytes}
-use Rattle.board.specs.Read.{isRecord, coreOf, stagingOf, unitOf}
-use Rattle.board.specs.Serve.{Tapes, lentWith, resultBytes, Serves, fits, Freshens, holds}
-
--- Every record is given back by its bytes.
-abbrev pub ReadBack : Type 0
-ReadBack = (u : Unit) → Sized u → (isRecord (unitBytes u) ≡ true) × (unitOf (unitBytes u) ≡ u)
-
--- Bytes that are a record are the bytes of it: no record has two forms.
-abbrev pub Octets : List ℕ → Type 0
-Octets l = (i : ℕ) → byteAt l i < 256
-
-abbrev pub OneForm : Type 0
-OneForm = (l : List ℕ) → Octets l → isRecord l ≡ true → unitBytes (unitOf l) ≡ l
+use Rattle.layout.specs.Number.{byteAt}
+use Rattle.layout.specs.Read.{fits, isRecord, coreOf, stagingOf, unitOf}
+use Rattle.layout.specs.Laws.{Octets}
+use Rattle.board.specs.Serve.{Tapes, lentWith, resultBytes, Serves, Freshens, holds}
 
 -- What a fresh record is read as.
 abbrev pub FreshHeld : Type 0

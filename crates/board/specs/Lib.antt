@@ -1,6 +1,3 @@
-pub mod Number
-pub mod Written
-pub mod Read
 pub mod Serve
 pub mod Laws
 pub mod Outcomes

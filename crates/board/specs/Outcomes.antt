@@ -2,7 +2,7 @@
 use Prim.Native.Nat.{ℕ}
 use mathlib.Core.Path.{_≡_}
 use mathlib.Core.List.{List}
-use Rattle.board.specs.Written.{recordSize}
+use Rattle.layout.specs.Written.{recordSize}
 use Rattle.board.specs.Serve.{Tapes, Serves, Freshens, Shows}
 
 pub record OneOutcome : Type 0 where

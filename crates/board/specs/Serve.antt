@@ -3,8 +3,6 @@ use Prim.Native.Nat.{ℕ}
 use mathlib.Core.Path.{_≡_}
 use mathlib.Core.Bool.{Bool, true, false, _&&_}
 use mathlib.Core.List.{List, [], _∷_}
-use lib.Dec.{eqb}
-use lib.ListN.{length}
 use Rattle.tape.specs.Choice.{pick}
 use Rattle.rules.specs.declared.answer.Answer.the-variants.{Taken, Impossible}
 use Rattle.rules.specs.declared.answer.Lines.{Lines}
@@ -14,8 +12,8 @@ use Rattle.rules.specs.Answer.{rowOf}
 use Rattle.rules.specs.Lines.{linesOf, linesDown}
 use Rattle.rules.specs.Refusal.{possible}
 use Rattle.rules.specs.Step.{Steps}
-use Rattle.board.specs.Written.{recordSize, flag, unit, Sized, unitBytes}
-use Rattle.board.specs.Read.{isRecord, coreOf, stagingOf}
+use Rattle.layout.specs.Written.{flag, unit, Sized, unitBytes}
+use Rattle.layout.specs.Read.{fits, isRecord, coreOf, stagingOf}
 
 -- The four tapes; with the staging block they are what a step is lent.
 pub record Tapes : Type 0 where
@@ -62,9 +60,6 @@ pub data Serves (l : List ℕ) (t : Tapes) (event out l′ : List ℕ) (t′ : T
   of-none : isRecord l ≡ false → NotServed l t out l′ t′ → Serves l t event out l′ t′
 
 -- A fresh record, into a buffer of a record's size and no other.
-abbrev pub fits : List ℕ → Bool
-fits l = eqb (length l) recordSize
-
 pub record Freshens (l : List ℕ) (r : ℕ) (l′ : List ℕ) : Type 0 where
   pub answer : r ≡ pick (fits l) (rowOf Taken .number) (rowOf Impossible .number)
   pub left : l′ ≡ pick (fits l) (unitBytes freshUnit) l

@@ -2,19 +2,19 @@
 ghost use mathlib.Core.Path.{_≡_};
 ghost use mathlib.Core.Bool.{true};
 ghost use lib.ListN.{length};
-ghost use Rattle.board.specs.Written.{recordSize};
-ghost use Rattle.board.specs.Read.{isRecord};
+ghost use Rattle.layout.specs.Written.{recordSize};
+ghost use Rattle.layout.specs.Read.{isRecord};
 ghost use Rattle.board.specs.Serve.{tapes, Served, Serves, Freshens, holds, Shows};
 use crate::LINES;
-use crate::RECORD;
 use crate::RESULT;
-use crate::read::core_of;
-use crate::read::is_record;
-use crate::read::staging_of;
 use crate::result::lines_bytes;
 use crate::result::no_record;
 use crate::result::result_bytes;
-use crate::write::write;
+use layout::RECORD;
+use layout::core_of;
+use layout::is_record;
+use layout::staging_of;
+use layout::write_record;
 use rules::Answer;
 use rules::Core;
 use rules::Unit;
@@ -39,7 +39,7 @@ pub extern "C" fn glenoulty_fresh(buffer: &mut [u8]) -> u8
 {
     if buffer.len() == RECORD {
         let unit = Unit::fresh();
-        write(buffer, unit.core, &unit.staging);
+        write_record(buffer, unit.core, &unit.staging);
         return number(Answer::Taken);
     }
     number(Answer::Impossible)
@@ -60,7 +60,7 @@ fn serve(
     let core = core_of(buffer);
     let mut staging = staging_of(buffer);
     let turn = step_core(core, &mut staging, tape0, tape1, tape2, tape3, event);
-    write(buffer, turn.core, &staging);
+    write_record(buffer, turn.core, &staging);
     let answer = turn.answer;
     result_bytes(answer, turn.given, turn.byte, turn.lines)
 }

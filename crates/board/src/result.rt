@@ -2,11 +2,11 @@
 ghost use mathlib.Core.Path.{_≡_};
 ghost use mathlib.Core.List.{_∷_};
 ghost use Rattle.rules.specs.Answer.{rowOf};
-ghost use Rattle.board.specs.Written.{flag};
+ghost use Rattle.layout.specs.Written.{flag};
 ghost use Rattle.board.specs.Serve.{linesBytes, noRecord};
 use crate::LINES;
 use crate::RESULT;
-use crate::write::flag;
+use layout::flag;
 use rules::Answer;
 use rules::Lines;
 use unit::number;

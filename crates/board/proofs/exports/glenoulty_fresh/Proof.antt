@@ -1,4 +1,4 @@
-use Rattle.board.specs.Written.{unitBytes}
+use Rattle.layout.specs.Written.{unitBytes}
 use Rattle.tape.specs.Choice.{pick}
 use borrow.Author.Tests.{eq-eqb, ne-eqb}
 use mathlib.Core.Path.{refl, ap, _∙_}
@@ -8,7 +8,7 @@ use Rattle.board.proofs.exports.glenoulty_fresh.Statement.{statement}
 use Rattle.board.proofs.exports.glenoulty_fresh.Tie as tie
 use Rattle.board.proofs.exports.glenoulty_fresh.Reads as reads
 use Rattle.board.proofs.exports.glenoulty_fresh.Lts as lts
-use Rattle.board.proofs.write.write.Reads as write-reads
+use Rattle.layout.proofs.write_record.Reads as write-record-reads
 use Rattle.rules.proofs.unit.Unit.fresh.Reads as fresh-reads
 use Rattle.unit.proofs.number.Reads as number-reads
 
@@ -17,8 +17,8 @@ fresh-requires : tie.Need-fresh-requires
 fresh-requires c κs = search needs
 
 -- src/exports.rt:42:9
-write-requires : tie.Need-write-requires
-write-requires c κs = search needs
+write-record-requires : tie.Need-write-record-requires
+write-record-requires c κs = search needs
 
 -- src/exports.rt:43:9
 number-requires : tie.Need-number-requires
@@ -31,7 +31,7 @@ same-length c = search needs
 -- src/exports.rt:43:9
 returns : tie.Need-returns
 unfolding pick
-returns c = let here = eq-eqb _ _ (c .before .before .before .before .before .before .before .before .before .if1 .taken) in record { answer = rw (here) (c .number .ensures); left = rw (here) (c .before .before .before .write .ensures .0 ∙ ap unitBytes (c .before .before .before .before .before .before .before .before .fresh .ensures)) }
+returns c = let here = eq-eqb _ _ (c .before .before .before .before .before .before .before .before .before .if1 .taken) in record { answer = rw (here) (c .number .ensures); left = rw (here) (c .before .before .before .write-record .ensures .0 ∙ ap unitBytes (c .before .before .before .before .before .before .before .before .fresh .ensures)) }
 
 -- src/exports.rt:45:5
 number-requires-2 : tie.Need-number-requires-2
@@ -47,7 +47,7 @@ glenoulty-fresh-spec =
     tie.close
     (tie.spec
     fresh-requires
-    write-requires
+    write-record-requires
     number-requires
     same-length
     returns

@@ -8,7 +8,7 @@ use Rattle.board.proofs.exports.glenoulty_lines.Tie as tie
 use Rattle.board.proofs.exports.glenoulty_lines.Reads as reads
 use Rattle.board.proofs.exports.glenoulty_lines.Lts as lts
 use Rattle.board.proofs.exports.holds.Reads as holds-reads
-use Rattle.board.proofs.read.core_of.Reads as core-of-reads
+use Rattle.layout.proofs.core_of.Reads as core-of-reads
 use Rattle.board.proofs.result.lines_bytes.Reads as lines-bytes-reads
 use Rattle.unit.proofs.number.Reads as number-reads
 use Rattle.unit.proofs.lines.Reads as lines-reads

@@ -8,7 +8,7 @@ use Rattle.board.proofs.exports.glenoulty_step.Tie as tie
 use Rattle.board.proofs.exports.glenoulty_step.Reads as reads
 use Rattle.board.proofs.exports.glenoulty_step.Lts as lts
 use Rattle.board.proofs.exports.serve.Reads as serve-reads
-use Rattle.board.proofs.read.is_record.Reads as is-record-reads
+use Rattle.layout.proofs.is_record.Reads as is-record-reads
 use Rattle.board.proofs.result.no_record.Reads as no-record-reads
 
 -- src/exports.rt:81:8

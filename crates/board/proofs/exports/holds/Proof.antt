@@ -6,8 +6,8 @@ use Rattle.board.proofs.exports.holds.Statement.{statement}
 use Rattle.board.proofs.exports.holds.Tie as tie
 use Rattle.board.proofs.exports.holds.Reads as reads
 use Rattle.board.proofs.exports.holds.Lts as lts
-use Rattle.board.proofs.read.core_of.Reads as core-of-reads
-use Rattle.board.proofs.read.is_record.Reads as is-record-reads
+use Rattle.layout.proofs.core_of.Reads as core-of-reads
+use Rattle.layout.proofs.is_record.Reads as is-record-reads
 use Rattle.unit.proofs.possible.Reads as possible-reads
 
 -- src/exports.rt:92:8

@@ -4,10 +4,10 @@ use Rattle.board.proofs.exports.serve.Statement.{statement}
 use Rattle.board.proofs.exports.serve.Tie as tie
 use Rattle.board.proofs.exports.serve.Reads as reads
 use Rattle.board.proofs.exports.serve.Lts as lts
-use Rattle.board.proofs.read.core_of.Reads as core-of-reads
-use Rattle.board.proofs.read.staging_of.Reads as staging-of-reads
+use Rattle.layout.proofs.core_of.Reads as core-of-reads
+use Rattle.layout.proofs.staging_of.Reads as staging-of-reads
 use Rattle.board.proofs.result.result_bytes.Reads as result-bytes-reads
-use Rattle.board.proofs.write.write.Reads as write-reads
+use Rattle.layout.proofs.write_record.Reads as write-record-reads
 use Rattle.unit.proofs.step_core.Reads as step-core-reads
 
 -- src/exports.rt:60:9
@@ -23,8 +23,8 @@ step-core-requires : tie.Need-step-core-requires
 step-core-requires c κs = search needs
 
 -- src/exports.rt:63:5
-write-requires : tie.Need-write-requires
-write-requires c κs = c .before .before .before .before .before .before .before .before .before .before .before .before .before .before .before .before .before .before .before .before .before .before .before .before .before .before .pre
+write-record-requires : tie.Need-write-record-requires
+write-record-requires c κs = c .before .before .before .before .before .before .before .before .before .before .before .before .before .before .before .before .before .before .before .before .before .before .before .before .before .before .pre
 
 -- src/exports.rt:65:5
 result-bytes-requires : tie.Need-result-bytes-requires
@@ -52,7 +52,7 @@ same-length-5 c = search needs
 
 -- src/exports.rt:49:1
 returns : tie.Need-returns
-returns c = record { turn = c .before .before .before .before .before .before .before .before .before .before .before .before .before .before .step-core .result; staging = _; steps = rw (c .before .before .before .before .before .before .before .before .before .before .before .before .before .before .before .before .before .before .before .before .staging-of .ensures, c .before .before .before .before .before .before .before .before .before .before .before .before .before .before .before .before .before .before .before .before .before .before .core-of .ensures) at (c .before .before .before .before .before .before .before .before .before .before .before .before .before .before .step-core .ensures); result = c .result-bytes .ensures; left = c .before .before .before .write .ensures .0; sized = c .before .before .before .write .ensures .1 }
+returns c = record { turn = c .before .before .before .before .before .before .before .before .before .before .before .before .before .before .step-core .result; staging = _; steps = rw (c .before .before .before .before .before .before .before .before .before .before .before .before .before .before .before .before .before .before .before .before .staging-of .ensures, c .before .before .before .before .before .before .before .before .before .before .before .before .before .before .before .before .before .before .before .before .before .before .core-of .ensures) at (c .before .before .before .before .before .before .before .before .before .before .before .before .before .before .step-core .ensures); result = c .result-bytes .ensures; left = c .before .before .before .write-record .ensures .0; sized = c .before .before .before .write-record .ensures .1 }
 
 pub serve-spec : {M : Type 1} → statement M
 serve-spec =
@@ -61,7 +61,7 @@ serve-spec =
     core-of-requires
     staging-of-requires
     step-core-requires
-    write-requires
+    write-record-requires
     result-bytes-requires
     same-length
     same-length-2

@@ -5,7 +5,7 @@ use Rattle.board.proofs.result.result_bytes.Tie as tie
 use Rattle.board.proofs.result.result_bytes.Reads as reads
 use Rattle.board.proofs.result.result_bytes.Lts as lts
 use Rattle.board.proofs.result.lines_bytes.Reads as lines-bytes-reads
-use Rattle.board.proofs.write.flag.Reads as flag-reads
+use Rattle.layout.proofs.flag.Reads as flag-reads
 use Rattle.unit.proofs.number.Reads as number-reads
 
 -- src/result.rt:24:13

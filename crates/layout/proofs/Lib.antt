@@ -1,0 +1,4 @@
+mod Parts
+pub mod Back
+pub mod Form
+pub mod Outcomes

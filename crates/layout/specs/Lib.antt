@@ -1,0 +1,5 @@
+pub mod Number
+pub mod Written
+pub mod Read
+pub mod Laws
+pub mod Outcomes

@@ -1,0 +1,15 @@
+-- Each public contract leaves one outcome: any two that it allows are equal.
+use Prim.Native.Nat.{ℕ}
+use mathlib.Core.Path.{_≡_}
+use mathlib.Core.Bool.{Bool}
+use mathlib.Core.List.{List}
+use Rattle.rules.specs.declared.unit.Core.{Core}
+use Rattle.layout.specs.Written.{flag, unit, unitBytes}
+use Rattle.layout.specs.Read.{isRecord, coreOf, stagingOf}
+
+pub record OneOutcome : Type 0 where
+  pub flag : (b : Bool) (r r′ : ℕ) → r ≡ flag b → r′ ≡ flag b → r ≡ r′
+  pub is-record : (l : List ℕ) (r r′ : Bool) → r ≡ isRecord l → r′ ≡ isRecord l → r ≡ r′
+  pub core-of : (l : List ℕ) (r r′ : Core) → r ≡ coreOf l → r′ ≡ coreOf l → r ≡ r′
+  pub staging-of : (l g g′ : List ℕ) → g ≡ stagingOf l → g′ ≡ stagingOf l → g ≡ g′
+  pub write-record : (c : Core) (g l′ l″ : List ℕ) → l′ ≡ unitBytes (unit c g) → l″ ≡ unitBytes (unit c g) → l′ ≡ l″

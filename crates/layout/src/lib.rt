@@ -1,0 +1,31 @@
+// The unit's record as bytes: written, recognised and read.
+mod number;
+mod read;
+mod write;
+
+pub use read::core_of;
+pub use read::is_record;
+pub use read::staging_of;
+pub use write::flag;
+pub use write::write_record;
+
+// The first byte of each record.
+pub(crate) const VERSION: u8 = 1;
+
+// The bytes of the port and of a drive.
+pub(crate) const PORT: usize = 25;
+
+pub(crate) const DRIVE: usize = 23;
+
+// Where each drive and the staging block begin, and where the record ends.
+pub(crate) const DRIVE_0: usize = PORT;
+
+pub(crate) const DRIVE_1: usize = DRIVE_0 + DRIVE;
+
+pub(crate) const DRIVE_2: usize = DRIVE_1 + DRIVE;
+
+pub(crate) const DRIVE_3: usize = DRIVE_2 + DRIVE;
+
+pub(crate) const STAGING: usize = DRIVE_3 + DRIVE;
+
+pub const RECORD: usize = STAGING + tape::BODY;

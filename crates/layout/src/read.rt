@@ -1,0 +1,203 @@
+// Bytes read as a record.
+ghost use mathlib.Core.Path.{_≡_};
+ghost use Prim.Native.Nat.{_+_, _≤_};
+ghost use lib.ListN.{length};
+ghost use Rattle.tape.specs.Record.{bodySize};
+ghost use Rattle.layout.specs.Number.{eightAt};
+ghost use Rattle.layout.specs.Written.{recordSize, driveSize, portSize};
+ghost use Rattle.layout.specs.Read.{stretch, isPhase, isLatched, isDrive, isPort, isRecord, modeOf, phaseOf, latchedOf, driveOf, portOf, coreOf, stagingOf};
+use crate::DRIVE;
+use crate::DRIVE_0;
+use crate::DRIVE_1;
+use crate::DRIVE_2;
+use crate::DRIVE_3;
+use crate::PORT;
+use crate::RECORD;
+use crate::STAGING;
+use crate::VERSION;
+use crate::number::of_eight;
+use crate::number::of_four;
+use crate::number::of_two;
+use rules::Core;
+use rules::Drive;
+use rules::Errors;
+use rules::Latched;
+use rules::Mode;
+use rules::Phase;
+use rules::Port;
+use rules::Underruns;
+use tape::BODY;
+
+// No number at Rest.
+fn is_phase(b: u8, n: usize) -> bool
+    ensures { λ r. ⌜ r ≡ isPhase b n ⌝ }
+{
+    (b <= 3) & ((1 <= b) | (n == 0))
+}
+
+fn mode_of(b: u8) -> Mode
+    ensures { λ r. ⌜ r ≡ modeOf b ⌝ }
+{
+    if b == 0 {
+        return Mode::Idle;
+    }
+    if b == 1 { Mode::Writing } else { Mode::Reading }
+}
+
+fn phase_of(b: u8, n: usize) -> Phase
+    ensures { λ r. ⌜ r ≡ phaseOf b n ⌝ }
+{
+    if b == 0 {
+        return Phase::Rest;
+    }
+    if b == 1 {
+        return Phase::Taking(n);
+    }
+    if b == 2 {
+        Phase::Giving(n)
+    } else {
+        Phase::Status(n)
+    }
+}
+
+fn is_latched(p: &[u8; DRIVE]) -> bool
+    ensures { λ r. ⌜ r ≡ isLatched (now (p .entry)) ⌝ }
+{
+    (p[12] <= 1)
+        & ((p[13] <= 1)
+            & ((p[14] <= 1) & ((p[15] <= 1) & ((p[16] <= 1) & ((p[17] <= 1) & (p[18] <= 1))))))
+}
+
+fn is_drive(p: &[u8; DRIVE]) -> bool
+    ensures { λ r. ⌜ r ≡ isDrive (now (p .entry)) ⌝ }
+{
+    (p[0] <= 1) & ((p[1] <= 1) & ((p[10] <= 2) & ((p[11] <= 1) & is_latched(p))))
+}
+
+fn phase_number(p: &[u8; PORT]) -> usize
+    ensures { λ r. ⌜ r ≡ eightAt (now (p .entry)) 11 ⌝ }
+{
+    of_eight(
+        of_four(p[11], p[12], p[13], p[14]),
+        of_four(p[15], p[16], p[17], p[18]),
+    )
+}
+
+fn is_port(p: &[u8; PORT]) -> bool
+    ensures { λ r. ⌜ r ≡ isPort (now (p .entry)) ⌝ }
+{
+    (p[0] == VERSION) & ((p[9] <= 1) & is_phase(p[10], phase_number(p)))
+}
+
+fn latched_of(p: &[u8; DRIVE]) -> Latched
+    ensures { λ r. ⌜ r ≡ latchedOf (now (p .entry)) ⌝ }
+{
+    Latched {
+        cni: p[12] == 1,
+        eom: p[13] == 1,
+        ude: p[14] == 1,
+        fil: p[15] == 1,
+        ill: p[16] == 1,
+        ndt: p[17] == 1,
+        por: p[18] == 1,
+    }
+}
+
+fn drive_of(p: &[u8; DRIVE]) -> Drive
+    ensures { λ r. ⌜ r ≡ driveOf (now (p .entry)) ⌝ }
+{
+    let mode = mode_of(p[10]);
+    let head = of_eight(
+        of_four(p[2], p[3], p[4], p[5]),
+        of_four(p[6], p[7], p[8], p[9]),
+    );
+    let latched = latched_of(p);
+    Drive {
+        loaded: p[0] == 1,
+        protected: p[1] == 1,
+        head,
+        mode,
+        exception: p[11] == 1,
+        latched,
+        errors: Errors(of_two(p[19], p[20])),
+        underruns: Underruns(of_two(p[21], p[22])),
+    }
+}
+
+fn port_of(p: &[u8; PORT]) -> Port
+    ensures { λ r. ⌜ r ≡ portOf (now (p .entry)) ⌝ }
+{
+    let selected = of_eight(
+        of_four(p[1], p[2], p[3], p[4]),
+        of_four(p[5], p[6], p[7], p[8]),
+    );
+    let phase = phase_of(p[10], phase_number(p));
+    Port {
+        selected,
+        online: p[9] == 1,
+        phase,
+        octets: [p[19], p[20], p[21], p[22], p[23], p[24]],
+    }
+}
+
+fn port_part(buffer: &[u8]) -> [u8; PORT]
+    requires { do ⌜ (← ⟦buffer.len()⟧) ≡ recordSize ⌝ }
+    ensures { λ r. ⌜ r ≡ stretch 0 portSize (now (buffer .entry)) ⌝ }
+{
+    let mut part = [0; PORT];
+    bytes::copy(&buffer[0..PORT], &mut part);
+    part
+}
+
+fn drive_part(buffer: &[u8], at: usize) -> [u8; DRIVE]
+    requires { do ⌜ at + driveSize ≤ (← ⟦buffer.len()⟧) ⌝ }
+    ensures { λ r. ⌜ r ≡ stretch at driveSize (now (buffer .entry)) ⌝ }
+{
+    let mut part = [0; DRIVE];
+    let end = at + DRIVE;
+    bytes::copy(&buffer[at..end], &mut part);
+    part
+}
+
+pub fn staging_of(buffer: &[u8]) -> [u8; BODY]
+    requires { do ⌜ (← ⟦buffer.len()⟧) ≡ recordSize ⌝ }
+    ensures { λ r. ⌜ r ≡ stagingOf (now (buffer .entry)) ⌝ }
+{
+    let mut part = [0; BODY];
+    bytes::copy(&buffer[STAGING..RECORD], &mut part);
+    part
+}
+
+// Whether bytes are a buffer, possible or not.
+pub fn is_record(buffer: &[u8]) -> bool
+    ensures { λ r. ⌜ r ≡ isRecord (now (buffer .entry)) ⌝ }
+{
+    if buffer.len() != RECORD {
+        return false;
+    }
+    let port = port_part(buffer);
+    let drive0 = drive_part(buffer, DRIVE_0);
+    let drive1 = drive_part(buffer, DRIVE_1);
+    let drive2 = drive_part(buffer, DRIVE_2);
+    let drive3 = drive_part(buffer, DRIVE_3);
+    is_port(&port)
+        & (is_drive(&drive0) & (is_drive(&drive1) & (is_drive(&drive2) & is_drive(&drive3))))
+}
+
+pub fn core_of(buffer: &[u8]) -> Core
+    requires { do ⌜ (← ⟦buffer.len()⟧) ≡ recordSize ⌝ }
+    ensures { λ r. ⌜ r ≡ coreOf (now (buffer .entry)) ⌝ }
+{
+    let port = port_of(&port_part(buffer));
+    let drive0 = drive_of(&drive_part(buffer, DRIVE_0));
+    let drive1 = drive_of(&drive_part(buffer, DRIVE_1));
+    let drive2 = drive_of(&drive_part(buffer, DRIVE_2));
+    let drive3 = drive_of(&drive_part(buffer, DRIVE_3));
+    Core {
+        port,
+        drive0,
+        drive1,
+        drive2,
+        drive3,
+    }
+}
