@@ -2,12 +2,7 @@
 #ifndef BASELINE_ACTS_H
 #define BASELINE_ACTS_H
 
-#include "tape.h"
-
-static inline void at_phase(struct unit *u, uint8_t phase, size_t place) {
-    u->phase = phase;
-    u->place = place;
-}
+#include "parts.h"
 
 // The 512th byte: the block is recorded where there is room.
 static inline bool store(struct unit *u, size_t d, struct tape t) {

@@ -1,27 +1,5 @@
 // One event: what refuses it, in the order of the answers, then what it does.
 #include "acts.h"
-#include "orders.h"
-
-static void power_on(struct unit *u, size_t d) {
-    u->head[d] = 0;
-    u->flags[d] = (u->flags[d] & (LOADED | PROTECTED)) | EXCEPTION;
-    u->latched0[d] = 0;
-    u->latched1[d] = POR;
-    u->errors[d] = u->underruns[d] = 0;
-}
-
-// RESET: cartridges, plugs, tapes, the level, staging and octets stay.
-static bool reset(struct unit *u) {
-    for (size_t d = 0; d < DRIVES; d++) power_on(u, d);
-    u->selected = 0;
-    at_phase(u, REST, 0);
-    return true;
-}
-
-void baseline_fresh(struct unit *u) {
-    memset(u, 0, sizeof *u);
-    reset(u);
-}
 
 // Whether a number is above the longest tape: four at once, and one by one only if that cannot tell.
 static inline bool above(size_t a, size_t b, size_t c, size_t d) {
@@ -75,34 +53,9 @@ static inline bool act(struct unit *u, const struct tape *tapes, const uint8_t *
     switch (event[0]) {
     case GIVE: return give(u, d, tapes[d], event[1]);
     case TAKE: return take(u, d, tapes[d], r);
-    case COMMAND: return command(u, d, tapes[d], event[1]);
+    case COMMAND: return baseline_command(u, d, tapes[d], event[1]);
     case ONLINE: u->online = true; return false;
     default: return drop(u, d, tapes[d]);
-    }
-}
-
-static bool pull(struct unit *u, size_t d) {
-    u->head[d] = 0;
-    u->flags[d] = 0;
-    if (d == u->selected && u->phase != STATUS) at_phase(u, REST, 0);
-    return raise0(u, d, CNI);
-}
-
-static void count(uint16_t *counter) { *counter += *counter < UINT16_MAX; }
-
-// An event that names a drive: its answer.
-static uint8_t at_slot(struct unit *u, uint8_t kind, uint8_t body) {
-    size_t d = body & 3;
-    bool loaded = u->flags[d] & LOADED;
-    if (loaded == (kind == SLOT_IN)) return WRONG_SLOT;
-    switch (kind) {
-    case SLOT_IN:
-        u->flags[d] |= body & 0x80 ? LOADED | PROTECTED : LOADED;
-        u->head[d] = 0;
-        return TAKEN;
-    case SLOT_OUT: return pull(u, d) ? RAISED : TAKEN;
-    case ERROR: count(&u->errors[d]); return TAKEN;
-    default: count(&u->underruns[d]); return TAKEN;
     }
 }
 
@@ -110,8 +63,8 @@ static inline uint8_t answer(struct unit *u, const struct tape *t, const uint8_t
                              struct result *r) {
     if (above(t[0].length, t[1].length, t[2].length, t[3].length)) return TOO_LONG;
     if (malformed(event, length)) return MALFORMED;
-    if (event[0] >= SLOT_IN) return at_slot(u, event[0], event[1]);
-    if (event[0] == RESET) return reset(u) ? RAISED : TAKEN;
+    if (event[0] >= SLOT_IN) return baseline_slot(u, event[0], event[1]);
+    if (event[0] == RESET) return baseline_reset(u) ? RAISED : TAKEN;
     if (out_of_step(u, event[0])) return OUT_OF_STEP;
     return act(u, t, event, r) ? RAISED : TAKEN;
 }

@@ -1,8 +1,5 @@
 // Command octets: the tests that an order has to pass, and what each order does.
-#ifndef BASELINE_ORDERS_H
-#define BASELINE_ORDERS_H
-
-#include "tape.h"
+#include "parts.h"
 
 enum {
     SELECT_0 = 0x01,
@@ -38,7 +35,7 @@ static const uint8_t needs[256] = {
 };
 
 // Tests 1 to 4: an order that is illegal now.
-static inline bool illegal(const struct unit *u, uint8_t flags, uint8_t code, uint8_t need) {
+static bool illegal(const struct unit *u, uint8_t flags, uint8_t code, uint8_t need) {
     if ((flags & EXCEPTION) && code != READ_STATUS) return true;
     if (!(need & KNOWN)) return true;
     if ((flags & WRITING) && !(need & IN_WRITING)) return true;
@@ -47,7 +44,7 @@ static inline bool illegal(const struct unit *u, uint8_t flags, uint8_t code, ui
 }
 
 // READ STATUS: the six octets are made, then what they tell is cleared.
-static inline bool report(struct unit *u, size_t d) {
+static bool report(struct unit *u, size_t d) {
     uint8_t flags = u->flags[d];
     uint8_t zero = u->latched0[d], one = u->latched1[d];
     if (!(flags & LOADED)) zero |= CNI;
@@ -68,7 +65,7 @@ static inline bool report(struct unit *u, size_t d) {
 }
 
 // Every order but those of the file marks, once its tests are passed; true where it raised EXCEPTION.
-static inline bool carry_out(struct unit *u, size_t d, struct tape t, uint8_t code) {
+static bool carry_out(struct unit *u, size_t d, struct tape t, uint8_t code) {
     switch (code) {
     case SELECT_0: u->selected = 0; return false;
     case SELECT_1: u->selected = 1; return false;
@@ -86,7 +83,7 @@ static inline bool carry_out(struct unit *u, size_t d, struct tape t, uint8_t co
 }
 
 // WRITE FILE MARK, once its tests are passed.
-static inline bool write_mark(struct unit *u, size_t d, struct tape t) {
+static bool write_mark(struct unit *u, size_t d, struct tape t) {
     if (!room(u->head[d], 1, t.length)) return no_room(u, d);
     record_mark(u, d, t);
     idle(u, d);
@@ -94,7 +91,7 @@ static inline bool write_mark(struct unit *u, size_t d, struct tape t) {
 }
 
 // A command octet; true where it raised EXCEPTION.
-static inline bool command(struct unit *u, size_t d, struct tape t, uint8_t code) {
+bool baseline_command(struct unit *u, size_t d, struct tape t, uint8_t code) {
     uint8_t flags = u->flags[d], need = needs[code];
     if (illegal(u, flags, code, need)) return raise1(u, d, ILL);
     if ((need & CARTRIDGE) && !(flags & LOADED)) return raise0(u, d, CNI);
@@ -103,5 +100,3 @@ static inline bool command(struct unit *u, size_t d, struct tape t, uint8_t code
     if (code == READ_MARK) return pass_blocks(u, d, t);
     return carry_out(u, d, t, code);
 }
-
-#endif
