@@ -28,9 +28,10 @@ fn every_listing_gives_its_output() {
 }
 
 #[test]
-fn every_output_has_its_listing() {
+fn every_output_has_its_listing_or_program() {
     assert!(files("listing").len() >= 5);
     for file in files("out") {
-        assert!(file.with_extension("listing").exists(), "{file:?}");
+        let made_from = ["listing", "c"].map(|ending| file.with_extension(ending));
+        assert!(made_from.iter().any(|source| source.exists()), "{file:?}");
     }
 }
