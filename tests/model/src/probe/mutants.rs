@@ -20,14 +20,14 @@ const MISREAD: [(&str, Misread); 13] = [
     ("loaded and protected exchanged", Both(|bytes| swap(bytes, 0, 1, 1))),
     ("latched FIL and ILL exchanged", Both(|bytes| swap(bytes, 15, 16, 1))),
     ("drives 1 and 2 exchanged", Both(|bytes| exchange(bytes, DRIVES + DRIVE, DRIVES + 2 * DRIVE))),
-    ("heads with the high byte first", Both(reverse_heads)),
+    ("heads with the high byte first", Both(|bytes| reverse_heads(bytes))),
     ("a bool above 1 is 1", In(|bytes| at_most(bytes, DRIVES + 3 * DRIVE + 18, 1))),
     ("ONLINE above 1 is 1", In(|bytes| at_most(bytes, 9, 1))),
     ("version 0 is a record", In(|bytes| raise(bytes, 0))),
-    ("a number at Rest is passed over", In(number_at_rest)),
+    ("a number at Rest is passed over", In(|bytes| number_at_rest(bytes))),
     ("a phase above 3 is Status", In(|bytes| at_most(bytes, 10, 3))),
     ("a mode above 2 is Reading", In(|bytes| at_most(bytes, DRIVES + 10, 2))),
-    ("heads have 32 bits", In(short_heads)),
+    ("heads have 32 bits", In(|bytes| short_heads(bytes))),
     ("a record of 630 bytes is one", In(|bytes| bytes.truncate(bytes.len() - bytes.len() / 630))),
 ];
 
@@ -172,11 +172,11 @@ fn exchange(bytes: &mut [u8], one: usize, other: usize) {
     }
 }
 
-fn reverse_heads(bytes: &mut Vec<u8>) {
+fn reverse_heads(bytes: &mut [u8]) {
     heads(bytes, |head| head.reverse());
 }
 
-fn short_heads(bytes: &mut Vec<u8>) {
+fn short_heads(bytes: &mut [u8]) {
     heads(bytes, |head| head[4..].fill(0));
 }
 
@@ -200,7 +200,7 @@ fn raise(bytes: &mut [u8], at: usize) {
     }
 }
 
-fn number_at_rest(bytes: &mut Vec<u8>) {
+fn number_at_rest(bytes: &mut [u8]) {
     if bytes.len() == SIZE && bytes[10] == 0 {
         bytes[11..19].fill(0);
     }

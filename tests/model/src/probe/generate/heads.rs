@@ -60,7 +60,8 @@ pub fn kinds(random: &mut Random, index: &mut Index, frames: &mut Vec<Frame>) {
     let kind = index.below(256) as u8;
     let rest = index.of(&[1, 2, 3, 511, 512, 513, 514, 515, 1026, 1027, 1540, 1541, 1542, 2054]);
     let act = index.of(&READING);
-    let head = random.pick(&[0, 0, 1, 513, 700]);
+    let far = random.among(0..1200);
+    let head = random.pick(&[0, 1, 513, far]);
     let next = random.byte();
     let mut setting = Setting::new(random);
     setting.ready(act, head as u64);
@@ -74,7 +75,8 @@ pub fn kinds_after(random: &mut Random, index: &mut Index, frames: &mut Vec<Fram
     let kind = index.below(256) as u8;
     let rest = index.of(&[0, 1, 2, 512, 513, 514, 1028]);
     let act = index.of(&[READING[1], READING[2], READING[6]]);
-    let head = random.pick(&[0, 0, 1, 513]);
+    let far = random.among(0..1200);
+    let head = random.pick(&[0, 1, 513, far]);
     let mut setting = Setting::new(random);
     setting.ready(act, head as u64);
     setting.lend(around(random, head + 513 + rest, head as u64, [0x01, kind]));

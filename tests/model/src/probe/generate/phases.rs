@@ -7,7 +7,7 @@ use crate::compare::random::Random;
 use crate::probe::frame::Frame;
 use crate::state::{Mode, Phase, ROOM};
 
-/// Events that meet a phase; 8 is drive 0's cartridge pulled, and the drive may be another.
+/// Events that meet a phase; the cartridge pulled is drive 0's, which is selected or not.
 const EVENTS: [&[u8]; 9] = [
     &[0x02, 0x3C],
     &[0x03],
