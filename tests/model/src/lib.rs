@@ -1,4 +1,5 @@
-//! An independent model of the tape unit of document 01, and what compares `replay` with it.
+//! An independent model of the tape unit of document 01, and what compares `replay`
+//! and a board with it.
 //!
 //! `Unit::step` is the unit; the modules beside it hold one part of the document each.
 
@@ -13,6 +14,7 @@ pub mod listing;
 pub mod mutants;
 mod octets;
 mod online;
+pub mod probe;
 mod refusals;
 pub mod replay;
 pub mod state;

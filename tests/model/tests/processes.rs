@@ -59,7 +59,7 @@ fn programs_that_are_no_replay_fail_and_nothing_hangs() {
 #[test]
 fn a_program_that_does_not_end_is_ended() {
     let words = ["sh", "-c", "sleep 1000; true"].map(String::from).to_vec();
-    let process = Process { words, limit: Duration::from_millis(300) };
+    let process = Process::replay(words, Duration::from_millis(300));
     let started = Instant::now();
     let wrong = process.run(&[0x06], Feed::Whole).expect_err("it has no end");
     assert!(wrong.starts_with("no end within"), "{wrong}");

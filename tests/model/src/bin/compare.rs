@@ -128,7 +128,7 @@ fn compare(options: &Options) -> ExitCode {
     let mut cases = suites::all(options.seed, options.events);
     cases.extend(suites::examples(&package().join("../../examples")));
     cases.retain(|case| options.suite.as_ref().is_none_or(|suite| suite == case.suite));
-    let program = Process { words: options.program.clone(), limit: Duration::from_secs(60) };
+    let program = Process::replay(options.program.clone(), Duration::from_secs(60));
     println!("comparing {:?}, seed {}", options.program.join(" "), options.seed);
     if cases.is_empty() || !starts(&program) {
         println!("0 passed, 1 failed");

@@ -33,10 +33,21 @@ impl Program for Mutant {
     }
 }
 
-/// A program and its arguments, and the time it may take beside what its input asks for.
+/// A program and its arguments, and the time it may take: so much, and more for each byte.
 pub struct Process {
     pub words: Vec<String>,
     pub limit: Duration,
+    pub pace: Duration,
+    /// The largest exit status that is no failure.
+    pub most_status: i32,
+}
+
+impl Process {
+    /// A `replay`: document 01 fixes no exit status, but 126 and above are a shell's or a signal's.
+    /// The time is generous: a slow emulator on a busy machine stays far below it.
+    pub fn replay(words: Vec<String>, limit: Duration) -> Process {
+        Process { words, limit, pace: Duration::from_micros(200), most_status: 125 }
+    }
 }
 
 impl Program for Process {
@@ -49,10 +60,11 @@ impl Program for Process {
             .process_group(0)
             .spawn()
             .map_err(|error| format!("cannot start {}: {error}", self.words[0]))?;
-        // Generous: a slow emulator on a busy machine stays far below it.
-        let limit = self.limit + Duration::from_micros(200) * trace.len() as u32;
+        let limit = self.limit + self.pace * trace.len() as u32;
         let (text, complaint, status) = converse(&mut child, trace, feed, limit)?;
-        judge(status).map_err(|wrong| format!("{wrong} {complaint}").trim().into()).map(|()| text)
+        judge(status, self.most_status)
+            .map_err(|wrong| format!("{wrong} {complaint}").trim().into())
+            .map(|()| text)
     }
 }
 
@@ -124,13 +136,13 @@ fn kill_group(id: u32) {
     let _ = Command::new("kill").args(["-KILL", "--", &format!("-{id}")]).status();
 }
 
-/// The document fixes no exit status; a program that died or was not found is told from others.
-fn judge(status: ExitStatus) -> Result<(), String> {
+/// A program that died or was not found is told from others.
+fn judge(status: ExitStatus, most: i32) -> Result<(), String> {
     if let Some(signal) = status.signal() {
         return Err(format!("ended by signal {signal}"));
     }
     match status.code() {
-        Some(code) if code >= 126 => Err(format!("exit status {code}")),
+        Some(code) if code > most => Err(format!("exit status {code}")),
         _ => Ok(()),
     }
 }

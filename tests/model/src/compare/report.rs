@@ -44,7 +44,7 @@ fn stem(text: &str) -> String {
 }
 
 /// Keeps bytes in a file and says where, or why not.
-fn keep_file(folder: &Path, name: &str, bytes: &[u8]) -> String {
+pub fn keep_file(folder: &Path, name: &str, bytes: &[u8]) -> String {
     let path = folder.join(name);
     match fs::create_dir_all(folder).and_then(|()| fs::write(&path, bytes)) {
         Ok(()) => format!("kept in {}", path.display()),

@@ -11,7 +11,8 @@ pub fn first_block_only(scene: &mut Scene) {
         .then(|| scene.tapes[at].clone());
     let head = scene.unit.drives[at].head as usize;
     scene.go();
-    if let (Some(kept), true) = (kept, scene.unit.phase == Phase::Rest) {
+    let recorded = scene.is(0x02) && scene.unit.drives[at].head as usize == head + 513;
+    if let (Some(kept), true) = (kept, recorded) {
         scene.tapes[at][head + 1..head + 513].copy_from_slice(&kept[head + 1..head + 513]);
     }
 }
@@ -79,10 +80,15 @@ pub fn no_closing(scene: &mut Scene) {
     let marks = scene.commands(WRITE_FILE_MARK);
     scene.go();
     let moved = scene.unit.drives[at].head.wrapping_sub(head);
+    let mut put_back = |size: usize, kept: Option<u8>| {
+        if let (Some(byte), Some(kept)) = (scene.tapes[at].get_mut(head as usize + size), kept) {
+            *byte = kept;
+        }
+    };
     if dropped || (marks && moved == 1) {
-        scene.tapes[at][head as usize + 1] = kept[0].unwrap_or(0);
-    } else if scene.is(0x02) && moved == 513 {
-        scene.tapes[at][head as usize + 513] = kept[1].unwrap_or(0);
+        put_back(1, kept[0]);
+    } else if scene.event[0] == 0x02 && moved == 513 {
+        put_back(513, kept[1]);
     }
 }
 

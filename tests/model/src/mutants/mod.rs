@@ -1,7 +1,10 @@
 //! Models with one rule broken on purpose: a comparison that misses one of them has no teeth.
 
 mod bytes;
+mod edges;
+pub mod hidden;
 mod orders;
+mod refused;
 mod status;
 mod text;
 
@@ -90,17 +93,55 @@ pub fn replay(number: usize, trace: &[u8]) -> Vec<u8> {
         Text(text) => text(trace),
         Step(step) => {
             let mut memory = 0;
-            replay_with(trace, |unit, tapes, event| {
-                let outcome =
-                    Outcome { answer: Answer::OutOfStep, byte: None, lines: Lines::default() };
-                let memory = &mut memory;
-                let mut scene = Scene { unit, tapes, event, outcome, lines: None, memory };
-                step(&mut scene);
-                scene.outcome.lines = scene.lines.unwrap_or(scene.unit.lines());
-                scene.outcome
-            })
+            replay_with(trace, |unit, tapes, event| play(*step, unit, tapes, event, &mut memory))
         }
     }
+}
+
+/// One event in the model broken by a mutant.
+pub fn step(
+    number: usize,
+    unit: &mut Unit,
+    tapes: &mut Tapes,
+    event: &[u8],
+    memory: &mut u64,
+) -> Outcome {
+    match &MUTANTS[number - 1].1 {
+        // These were made for records that can be.
+        Step(step) if !unit.impossible() && !event.is_empty() => {
+            play(*step, unit, tapes, event, memory)
+        }
+        _ => unit.step(tapes, event),
+    }
+}
+
+/// Whether a mutant breaks a step, and not the text around it.
+pub fn breaks_steps(number: usize) -> bool {
+    matches!(MUTANTS[number - 1].1, Step(_))
+}
+
+fn play(
+    step: fn(&mut Scene),
+    unit: &mut Unit,
+    tapes: &mut Tapes,
+    event: &[u8],
+    memory: &mut u64,
+) -> Outcome {
+    let mut scene = scene(unit, tapes, event, memory);
+    step(&mut scene);
+    scene.outcome.lines = scene.lines.unwrap_or(scene.unit.lines());
+    scene.outcome
+}
+
+/// A step that is not made yet.
+fn scene<'a>(
+    unit: &'a mut Unit,
+    tapes: &'a mut Tapes,
+    event: &'a [u8],
+    memory: &'a mut u64,
+) -> Scene<'a> {
+    let outcome = Outcome { answer: Answer::OutOfStep, byte: None, lines: Lines::default() };
+    Scene { unit, tapes, event, outcome, lines: None, memory }
 }
 
 impl Scene<'_> {

@@ -1,0 +1,17 @@
+//! The comparison of a board, call by call, on any record, any tapes and any event.
+
+pub mod board;
+pub mod codec;
+pub mod coverage;
+pub mod frame;
+pub mod generate;
+mod happened;
+pub mod mutants;
+pub mod reply;
+pub mod report;
+pub mod runner;
+pub mod shrink;
+pub mod tally;
+
+#[cfg(test)]
+mod codec_tests;
