@@ -10,10 +10,11 @@ use Rattle.rules.specs.Event.{eventOf}
 use Rattle.rules.specs.Answer.{rowOf}
 use Rattle.rules.specs.Step.{Stepped, stepped, Steps}
 use Rattle.rules.specs.Run.{World, world}
-use Rattle.rules.specs.Reach.{Reading, realChange, Gave, reachesBy, gaveBy, keptIf, reaches, gave, reached, given}
+use Rattle.rules.specs.Reach.{Reading, realChange, anyLevel, Gave, reachesBy, gaveBy, keptIf, reaches, gave, reached, given}
+use Rattle.rules.specs.Promises.Demand3.{Demand3For}
 use Rattle.rules.specs.Promises.Refused.{AsFound}
 use Rattle.rules.proofs.Refused.{refused-keeps}
-use Rattle.rules.proofs.Demand3.{demand-3}
+use Rattle.rules.proofs.Demand3.{demand-3, demand-3-any-level}
 use Rattle.unit.specs.Runs.{Ran, no-event, next}
 use Rattle.unit.specs.Demands.{reachedIn, gaveIn, OneDrive, DemandsHold}
 use Rattle.unit.proofs.Runs.{steps-are-the-books, runs-are-the-books}
@@ -43,11 +44,11 @@ seen k d w w′ (e ∷ es) (r ∷ rs) (next {c} {l} {l′} p q) =
           ∙ ap₂ (λ (t : Turn) (v : World). keptIf (here t) (gaveBy d (c .port .selected) (eventOf e) t) (given k d v es)) (sym (one .answered)) (sym (one .left));
     }
 
-one-drive : OneDrive
-one-drive d d3 a b c e a′ b′ c′ e′ h h′ t es es′ rs rs′ w w′ p p′ same =
-    let x = seen realChange d _ w es rs p in
-    let x′ = seen realChange d _ w′ es′ rs′ p′ in
-    let fate = demand-3 d d3 a b c e a′ b′ c′ e′ h h′ t es es′ (sym (x .reached-is) ∙ same ∙ x′ .reached-is) in (
+one-drive : (k : Reading) → Demand3For k → OneDrive k
+one-drive k book d d3 a b c e a′ b′ c′ e′ h h′ t es es′ rs rs′ w w′ p p′ same =
+    let x = seen k d _ w es rs p in
+    let x′ = seen k d _ w′ es′ rs′ p′ in
+    let fate = book d d3 a b c e a′ b′ c′ e′ h h′ t es es′ (sym (x .reached-is) ∙ same ∙ x′ .reached-is) in (
       rw (runs-are-the-books _ w es rs p .left, runs-are-the-books _ w′ es′ rs′ p′ .left) (fate .ends),
       x .gave-is ∙ fate .gives ∙ sym (x′ .gave-is),
     )
@@ -58,5 +59,6 @@ demands-hold =
       answered = λ c l event r l′ p. ap (λ (s : Stepped). s .turn .answer) (p .is);
       refused = refused;
       books = runs-are-the-books;
-      one-drive = one-drive;
+      one-drive = one-drive realChange demand-3;
+      one-drive-any-level = one-drive anyLevel demand-3-any-level;
     }

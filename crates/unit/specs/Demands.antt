@@ -11,7 +11,7 @@ use Rattle.rules.specs.Answer.{rowOf}
 use Rattle.rules.specs.Refusal.{short}
 use Rattle.rules.specs.Step.{stepped, Steps}
 use Rattle.rules.specs.Run.{World, freshWorld}
-use Rattle.rules.specs.Reach.{Reading, realChange, Gave, reachesBy, gaveBy, keptIf}
+use Rattle.rules.specs.Reach.{Reading, realChange, anyLevel, Gave, reachesBy, gaveBy, keptIf}
 use Rattle.rules.specs.Promises.Table.{answerTo}
 use Rattle.rules.specs.Promises.Refused.{AsFound}
 use Rattle.rules.specs.Promises.Demand3.{Alike}
@@ -32,14 +32,14 @@ gaveIn k d c (e ∷ es) (r ∷ rs) =
 
 -- Two runs of the step from a fresh unit, any tapes of allowed length that agree on drive d's, any events: where the same events reach the drive in the same order,
 -- it ends the same and gave the same.
-abbrev pub OneDrive : Type 0
-OneDrive =
+abbrev pub OneDrive : Reading → Type 0
+OneDrive k =
     (d : ℕ) → d ≤ 3 → (a b c e a′ b′ c′ e′ : List ℕ)
     → short (freshWorld a b c e .lent) ≡ true → short (freshWorld a′ b′ c′ e′ .lent) ≡ true
     → tapeAt (freshWorld a b c e .lent) d ≡ tapeAt (freshWorld a′ b′ c′ e′ .lent) d
     → (es es′ : List (List ℕ)) (rs rs′ : List Turn) (w w′ : World) → Ran (freshWorld a b c e) es rs w → Ran (freshWorld a′ b′ c′ e′) es′ rs′ w′
-    → reachedIn realChange d freshCore es rs ≡ reachedIn realChange d freshCore es′ rs′
-    → Alike d w w′ × (gaveIn realChange d freshCore es rs ≡ gaveIn realChange d freshCore es′ rs′)
+    → reachedIn k d freshCore es rs ≡ reachedIn k d freshCore es′ rs′
+    → Alike d w w′ × (gaveIn k d freshCore es rs ≡ gaveIn k d freshCore es′ rs′)
 
 pub record DemandsHold : Type 0 where
   -- 1. The answer is the one that the table gives, and a refused event leaves all as found.
@@ -48,4 +48,6 @@ pub record DemandsHold : Type 0 where
   -- 2. Core, staging block, tapes and all that was answered are the book's after every run.
   pub books : RunsAreTheBooks
   -- 3. One drive depends on what reaches it, and on nothing else.
-  pub one-drive : OneDrive
+  pub one-drive : OneDrive realChange
+  -- The same where a level of ONLINE that is repeated counts too.
+  pub one-drive-any-level : OneDrive anyLevel
