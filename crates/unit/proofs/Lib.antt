@@ -2,3 +2,4 @@ pub mod Runs
 pub mod Demands
 pub mod Outcomes
 mod Bytes
+mod Settling

@@ -1,4 +1,4 @@
-pub mod Tapes
+pub mod Meant
 pub mod Turn
 pub mod Runs
 pub mod Feed

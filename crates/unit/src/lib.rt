@@ -1,7 +1,6 @@
 // Four drives on one cable: what an event means, what refuses it, and the step that answers it.
 mod answer;
 mod cable;
-mod effect;
 mod event;
 mod feed;
 mod own;

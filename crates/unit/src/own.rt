@@ -1,75 +1,55 @@
-// An act of the host: the selected drive, at its own tape of the four.
+// An act of the host: the selected drive, with its record and its own tape of the four.
 ghost use mathlib.Core.Path.{_≡_};
-ghost use Rattle.rules.specs.Unit.{lent, tapeAt};
-ghost use Rattle.rules.specs.Effect.{seat};
-ghost use Rattle.rules.specs.Step.{act, stepped, stagedIn, owned};
-ghost use Rattle.unit.specs.Tapes.{spread, onTape};
+ghost use Rattle.rules.specs.declared.event.Event.the-variants.{Own};
+ghost use Rattle.rules.specs.Unit.{lent};
+ghost use Rattle.rules.specs.Step.{stepped};
+ghost use Rattle.unit.specs.Meant.{kept, ownBy, settledBy};
+use crate::answer::refuses;
+use crate::record::possible;
+use crate::refuse::in_step;
+use crate::refuse::refusal_by;
+use crate::refuse::unless;
 use crate::turn::done;
+use crate::turn::refuse;
 use port::act;
 use port::stage;
 use rules::Act;
+use rules::Answer;
 use rules::Core;
 use rules::Drive;
-use rules::Moved;
-use rules::Port;
 use rules::Turn;
 use tape::BODY;
 
-// The act of drive i: no tape but its own is lent to it.
-fn on_tape(
-    i: usize,
-    port: Port,
-    staging: &[u8; BODY],
-    drive: Drive,
-    tape0: &mut [u8],
-    tape1: &mut [u8],
-    tape2: &mut [u8],
-    tape3: &mut [u8],
-    a: Act,
-) -> Moved
-    ensures { λ r. ⌜ spread r (lent (now (staging .entry)) (now (tape0 .exit)) (now (tape1 .exit)) (now (tape2 .exit)) (now (tape3 .exit))) ≡ onTape i (lent (now (staging .entry)) (now (tape0 .entry)) (now (tape1 .entry)) (now (tape2 .entry)) (now (tape3 .entry))) (act (now (staging .entry)) (seat port drive (tapeAt (lent (now (staging .entry)) (now (tape0 .entry)) (now (tape1 .entry)) (now (tape2 .entry)) (now (tape3 .entry))) i)) a) ⌝ }
-{
-    if i == 0 {
-        return act(port, staging, drive, tape0, a);
-    }
-    if i == 1 {
-        return act(port, staging, drive, tape1, a);
-    }
-    if i == 2 {
-        return act(port, staging, drive, tape2, a);
-    }
-    act(port, staging, drive, tape3, a)
-}
-
-// The act of the selected drive, and what it leaves put back.
-fn act_selected(
+// Refused, or a byte given staged first and then the act: nothing is in reach but this drive's tape.
+fn act_on(
     core: Core,
-    staging: &[u8; BODY],
-    tape0: &mut [u8],
-    tape1: &mut [u8],
-    tape2: &mut [u8],
-    tape3: &mut [u8],
+    near: bool,
+    drive: Drive,
+    staging: &mut [u8; BODY],
+    tape: &mut [u8],
     a: Act,
 ) -> Turn
-    ensures { λ r. ⌜ stepped r (lent (now (staging .entry)) (now (tape0 .exit)) (now (tape1 .exit)) (now (tape2 .exit)) (now (tape3 .exit))) ≡ owned core (lent (now (staging .entry)) (now (tape0 .entry)) (now (tape1 .entry)) (now (tape2 .entry)) (now (tape3 .entry))) a ⌝ }
+    ensures { λ r. ⌜ kept r (now (staging .exit)) (now (tape .exit)) ≡ ownBy core near drive (now (staging .entry)) (now (tape .entry)) a ⌝ }
 {
     let port = core.port;
-    let i = port.selected;
-    let drive = core.drive(i);
-    let moved = on_tape(i, port, staging, drive, tape0, tape1, tape2, tape3, a);
+    let phase = port.phase;
+    let fits = in_step(phase, drive.writes(), drive.reads(), a);
+    let answer = refusal_by(possible(core), near, unless(fits, Answer::OutOfStep));
+    if refuses(answer) {
+        return refuse(answer, core);
+    }
+    stage(staging, phase, a);
+    let moved = act(port, staging, drive, tape, a);
     let after = moved.port;
     let left = moved.drive;
-    done(
-        moved.raised,
-        moved.given,
-        moved.byte,
-        core.put(after, i, left),
-    )
+    let whole = core.put(after, port.selected, left);
+    done(moved.raised, moved.given, moved.byte, whole)
 }
 
-// A byte given is staged first, then the selected drive acts.
+// The selected drive by its number: no tape but its own is lent.
 pub(crate) fn own(
     core: Core,
+    near: bool,
     staging: &mut [u8; BODY],
     tape0: &mut [u8],
     tape1: &mut [u8],
@@ -77,10 +57,17 @@ pub(crate) fn own(
     tape3: &mut [u8],
     a: Act,
 ) -> Turn
-    ensures { λ r. ⌜ stepped r (lent (now (staging .exit)) (now (tape0 .exit)) (now (tape1 .exit)) (now (tape2 .exit)) (now (tape3 .exit))) ≡ owned core (stagedIn core a (lent (now (staging .entry)) (now (tape0 .entry)) (now (tape1 .entry)) (now (tape2 .entry)) (now (tape3 .entry)))) a ⌝ }
+    ensures { λ r. ⌜ stepped r (lent (now (staging .exit)) (now (tape0 .exit)) (now (tape1 .exit)) (now (tape2 .exit)) (now (tape3 .exit))) ≡ settledBy core near (lent (now (staging .entry)) (now (tape0 .entry)) (now (tape1 .entry)) (now (tape2 .entry)) (now (tape3 .entry))) (Own a) ⌝ }
 {
-    let port = core.port;
-    let phase = port.phase;
-    stage(staging, phase, a);
-    act_selected(core, staging, tape0, tape1, tape2, tape3, a)
+    let i = core.port.selected;
+    if i == 0 {
+        return act_on(core, near, core.drive0, staging, tape0, a);
+    }
+    if i == 1 {
+        return act_on(core, near, core.drive1, staging, tape1, a);
+    }
+    if i == 2 {
+        return act_on(core, near, core.drive2, staging, tape2, a);
+    }
+    act_on(core, near, core.drive3, staging, tape3, a)
 }

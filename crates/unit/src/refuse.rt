@@ -4,12 +4,9 @@ ghost use mathlib.Core.Bool.{_&&_};
 ghost use lib.Dec.{leb};
 ghost use Rattle.tape.specs.Choice.{pick};
 ghost use Rattle.rules.specs.declared.answer.Answer.the-variants.{Taken};
-ghost use Rattle.rules.specs.Refusal.{longest, possible, atRest, takes, gives, inStep, slotFits, refusalIn, refusalBy};
-use crate::record::possible;
+ghost use Rattle.rules.specs.Refusal.{longest, atRest, takes, gives, inStep, slotFits, refusalBy};
 use rules::Act;
 use rules::Answer;
-use rules::Core;
-use rules::Event;
 use rules::LONGEST;
 use rules::Phase;
 use rules::What;
@@ -58,7 +55,7 @@ fn gives(phase: Phase, reading: bool) -> bool
 }
 
 // Each act of the host by what it asks for.
-fn in_step(phase: Phase, writing: bool, reading: bool, a: Act) -> bool
+pub(crate) fn in_step(phase: Phase, writing: bool, reading: bool, a: Act) -> bool
     ensures { λ r. ⌜ r ≡ inStep phase writing reading a ⌝ }
 {
     match a {
@@ -71,7 +68,7 @@ fn in_step(phase: Phase, writing: bool, reading: bool, a: Act) -> bool
 }
 
 // 3: cartridge in asks for an empty slot, all else for a cartridge.
-fn slot_fits(loaded: bool, what: What) -> bool
+pub(crate) fn slot_fits(loaded: bool, what: What) -> bool
     ensures { λ r. ⌜ r ≡ slotFits loaded what ⌝ }
 {
     match what {
@@ -83,31 +80,14 @@ fn slot_fits(loaded: bool, what: What) -> bool
 }
 
 // Taken where it fits, else refused with the answer.
-fn unless(fits: bool, answer: Answer) -> Answer
+pub(crate) fn unless(fits: bool, answer: Answer) -> Answer
     ensures { λ r. ⌜ r ≡ pick fits Taken answer ⌝ }
 {
     if fits { Answer::Taken } else { answer }
 }
 
-// 4, 2 and 3: what refuses an event in a possible record with short tapes.
-fn refusal_in(core: Core, event: Event) -> Answer
-    ensures { λ r. ⌜ r ≡ refusalIn core event ⌝ }
-{
-    let port = core.port;
-    let phase = port.phase;
-    let drive = core.drive(port.selected);
-    let writing = drive.writes();
-    let reading = drive.reads();
-    match event {
-        Event::NoEvent => Answer::Malformed,
-        Event::Reset => Answer::Taken,
-        Event::Named(i, what) => unless(slot_fits(core.drive(i).loaded, what), Answer::WrongSlot),
-        Event::Own(a) => unless(in_step(phase, writing, reading, a), Answer::OutOfStep),
-    }
-}
-
 // 5 before 6, and 6 before the others.
-fn refusal_by(possible: bool, short: bool, answer: Answer) -> Answer
+pub(crate) fn refusal_by(possible: bool, short: bool, answer: Answer) -> Answer
     ensures { λ r. ⌜ r ≡ refusalBy possible short answer ⌝ }
 {
     if possible {
@@ -115,11 +95,4 @@ fn refusal_by(possible: bool, short: bool, answer: Answer) -> Answer
     } else {
         Answer::Impossible
     }
-}
-
-// What refuses an event; `Taken` where nothing does.
-pub(crate) fn refusal(core: Core, short: bool, event: Event) -> Answer
-    ensures { λ r. ⌜ r ≡ refusalBy (possible core) short (refusalIn core event) ⌝ }
-{
-    refusal_by(possible(core), short, refusal_in(core, event))
 }

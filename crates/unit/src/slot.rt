@@ -1,16 +1,25 @@
 // Cartridges and counts: what happens at a drive that an event names.
 ghost use mathlib.Core.Path.{_≡_};
-ghost use lib.Dec.{eqb};
-ghost use Rattle.rules.specs.Unit.{driveAt, putDrive, atPhase};
+ghost use Rattle.rules.specs.declared.event.Event.the-variants.{Named};
+ghost use Rattle.unit.specs.Meant.{slotBy, Settles};
 ghost use Rattle.rules.specs.Slot.{befallen, isOut, partDropped, phaseAfter};
+use crate::answer::refuses;
+use crate::record::possible;
+use crate::refuse::refusal_by;
+use crate::refuse::slot_fits;
+use crate::refuse::unless;
+use crate::turn::done;
+use crate::turn::refuse;
 use count::errors_raised;
 use count::underruns_raised;
+use rules::Answer;
 use rules::Core;
 use rules::Drive;
 use rules::Phase;
+use rules::Turn;
 use rules::What;
 
-pub(crate) fn is_out(what: What) -> bool
+fn is_out(what: What) -> bool
     ensures { λ r. ⌜ r ≡ isOut what ⌝ }
 {
     match what {
@@ -56,14 +65,35 @@ fn befall(drive: Drive, what: What) -> Drive
     }
 }
 
-// The named drive's record changed, whichever is selected.
-pub(crate) fn at_slot(core: Core, i: usize, what: What) -> Core
-    ensures { λ r. ⌜ r ≡ putDrive core (atPhase (phaseAfter what (eqb i (core .port .selected)) (core .port .phase)) (core .port)) i (befallen what (driveAt core i)) ⌝ }
+// Refused, or the drive's record changed, whichever is selected.
+fn befall_at(core: Core, near: bool, i: usize, drive: Drive, what: What) -> Turn
+    ensures { λ r. ⌜ r ≡ slotBy core near i drive what ⌝ }
 {
+    let fits = slot_fits(drive.loaded, what);
+    let answer = refusal_by(possible(core), near, unless(fits, Answer::WrongSlot));
+    if refuses(answer) {
+        return refuse(answer, core);
+    }
     let port = core.port;
     let phase = port.phase;
     let here = i == port.selected;
     let after = port.at_phase(phase_after(what, here, phase));
-    let drive = befall(core.drive(i), what);
-    core.put(after, i, drive)
+    let left = befall(drive, what);
+    done(is_out(what), false, 0, core.put(after, i, left))
+}
+
+// The drive by the number that the event names.
+pub(crate) fn slot(core: Core, near: bool, i: usize, what: What) -> Turn
+    ensures { λ r. ⌜ Settles core near (Named i what) r ⌝ }
+{
+    if i == 0 {
+        return befall_at(core, near, i, core.drive0, what);
+    }
+    if i == 1 {
+        return befall_at(core, near, i, core.drive1, what);
+    }
+    if i == 2 {
+        return befall_at(core, near, i, core.drive2, what);
+    }
+    befall_at(core, near, i, core.drive3, what)
 }

@@ -1,18 +1,36 @@
-// One event: refusal first, effect second.
+// One event: the drive that it means, then refusal first and effect second.
+ghost use Rattle.rules.specs.declared.event.Event.the-variants.{Reset};
 ghost use Rattle.rules.specs.Unit.{lent};
 ghost use Rattle.rules.specs.Step.{Steps};
+ghost use Rattle.unit.specs.Meant.{Settles};
 ghost use Rattle.unit.specs.Turn.{turnOfOutcome};
 use crate::answer::refuses;
-use crate::effect::effect;
 use crate::event::event_of;
-use crate::refuse::refusal;
+use crate::own::own;
+use crate::record::possible;
+use crate::refuse::refusal_by;
 use crate::refuse::short;
+use crate::slot::slot;
+use crate::turn::done;
 use crate::turn::refuse;
+use rules::Answer;
 use rules::Core;
+use rules::Event;
 use rules::Outcome;
 use rules::Turn;
 use rules::Unit;
 use tape::BODY;
+
+// RESET, which nothing refuses but 5 and 6.
+fn reset(core: Core, near: bool) -> Turn
+    ensures { λ r. ⌜ Settles core near Reset r ⌝ }
+{
+    let answer = refusal_by(possible(core), near, Answer::Taken);
+    if refuses(answer) {
+        return refuse(answer, core);
+    }
+    done(true, false, 0, core.reset())
+}
 
 // One event on a core, with the staging block lent beside the four tapes.
 pub fn step_core(
@@ -28,11 +46,12 @@ pub fn step_core(
 {
     let e = event_of(event);
     let near = short(tape0.len(), tape1.len(), tape2.len(), tape3.len());
-    let answer = refusal(core, near, e);
-    if refuses(answer) {
-        return refuse(answer, core);
+    match e {
+        Event::NoEvent => refuse(refusal_by(possible(core), near, Answer::Malformed), core),
+        Event::Reset => reset(core, near),
+        Event::Named(i, what) => slot(core, near, i, what),
+        Event::Own(a) => own(core, near, staging, tape0, tape1, tape2, tape3, a),
     }
-    effect(core, staging, tape0, tape1, tape2, tape3, e)
 }
 
 // One event on a unit, which holds its staging block.
