@@ -21,18 +21,18 @@ pub struct Lines {
 
 // What a step of the unit hands back.
 pub struct Outcome {
+    pub unit: Unit,
     pub answer: Answer,
     pub given: bool,
     pub byte: u8,
     pub lines: Lines,
-    pub unit: Unit,
 }
 
 // What a step hands back where the staging block is lent beside the tapes.
 pub struct Turn {
+    pub core: Core,
     pub answer: Answer,
     pub given: bool,
     pub byte: u8,
     pub lines: Lines,
-    pub core: Core,
 }

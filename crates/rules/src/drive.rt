@@ -57,15 +57,16 @@ pub struct Errors(pub u16);
 
 pub struct Underruns(pub u16);
 
+// Wide fields first, so that no room is lost between them: a record is copied with each event.
 pub struct Drive {
+    pub head: usize,
+    pub errors: Errors,
+    pub underruns: Underruns,
     pub loaded: bool,
     pub protected: bool,
-    pub head: usize,
     pub mode: Mode,
     pub exception: bool,
     pub latched: Latched,
-    pub errors: Errors,
-    pub underruns: Underruns,
 }
 
 impl Latched {

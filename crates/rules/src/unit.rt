@@ -14,10 +14,10 @@ pub enum Phase {
 }
 
 pub struct Port {
-    pub selected: usize,
-    pub online: bool,
     pub phase: Phase,
+    pub selected: usize,
     pub octets: [u8; OCTETS],
+    pub online: bool,
 }
 
 pub struct Core {
@@ -35,11 +35,11 @@ pub struct Unit {
 
 // What an act of the selected drive leaves of the port and its record, and whether it raised EXCEPTION or handed out a byte.
 pub struct Moved {
+    pub port: Port,
+    pub drive: Drive,
     pub raised: bool,
     pub given: bool,
     pub byte: u8,
-    pub port: Port,
-    pub drive: Drive,
 }
 
 impl Port {
