@@ -1,12 +1,11 @@
 -- Calls over bytes are steps of the unit.
 use Prim.Native.Nat.{ℕ, _≤_}
 use mathlib.Core.Path.{_≡_, refl, sym, ap, ap₂, subst, _∙_}
-use mathlib.Core.Bool.{Bool, true, false, false≢true}
+use mathlib.Core.Bool.{true, false, false≢true}
 use mathlib.Core.List.{List, [], _∷_}
 use native.Mathlib.Omega.{arith}
 use Rattle.rules.specs.declared.answer.Answer.{Answer}
 use Rattle.rules.specs.declared.answer.Answer.the-variants.{Taken, Raised, OutOfStep, WrongSlot, Malformed, Impossible, TooLong}
-use Rattle.rules.specs.declared.answer.Turn.{Turn}
 use Rattle.rules.specs.declared.unit.Unit.{Unit}
 use Rattle.tape.specs.Choice.{pick}
 use Rattle.rules.specs.Unit.{Lent, oneOf, freshUnit}
@@ -18,8 +17,8 @@ use Rattle.unit.proofs.Demands.{demands-hold}
 use Rattle.layout.specs.Number.{byteAt}
 use Rattle.layout.specs.Written.{unit, unitBytes}
 use Rattle.layout.specs.Read.{isRecord, coreOf, stagingOf, unitOf}
-use Rattle.board.specs.Serve.{Tapes, lentWith, resultBytes, Served, Serves, of-record, of-none, holds}
-use Rattle.board.specs.Laws.{FreshHeld, RefusedKeeps, Used, no-call, next-call, worldOf, AsUnit, CallsRun}
+use Rattle.board.specs.Serve.{Tapes, lentWith, Served, of-record, of-none, holds}
+use Rattle.board.specs.Laws.{FreshHeld, RefusedKeeps, no-call, next-call, worldOf, CallsRun}
 use Rattle.layout.proofs.Back.{read-back}
 use Rattle.layout.proofs.Form.{one-form}
 use Rattle.board.proofs.Outcomes.{tapesIn}

@@ -12,7 +12,7 @@ use Rattle.layout.specs.Read.{fits, isRecord, coreOf, stagingOf, unitOf}
 use Rattle.layout.specs.Laws.{Octets}
 use Rattle.board.specs.Serve.{Tapes, lentWith, resultBytes, Serves, Freshens, holds}
 
--- What a fresh record is read as.
+-- A fresh record is possible, and what it holds is the fresh unit.
 abbrev pub FreshHeld : Type 0
 FreshHeld = (l l′ : List ℕ) (r : ℕ) → fits l ≡ true → Freshens l r l′ → (holds l′ ≡ true) × (unitOf l′ ≡ freshUnit)
 
@@ -31,13 +31,14 @@ pub data Used : List ℕ → Tapes → List (List ℕ) → List (List ℕ) → L
 abbrev pub worldOf : List ℕ → Tapes → World
 worldOf l t = world (coreOf l) (lentWith (stagingOf l) t)
 
--- Such calls are a run of the unit's step, so that all that is proved of those is proved of these.
+-- Calls are a run of the unit's step with the same events, and their results are its turns.
 pub record AsUnit (l : List ℕ) (t : Tapes) (events outs : List (List ℕ)) (l′ : List ℕ) (t′ : Tapes) : Type 0 where
   pub turns : List Turn
   pub ran : Ran (worldOf l t) events turns (worldOf l′ t′)
   pub results : outs ≡ map resultBytes turns
   pub still : isRecord l′ ≡ true
 
+-- Every list of calls on a record is such a run: what is proved of runs of the step is proved of calls.
 abbrev pub CallsRun : Type 0
 CallsRun =
     (l l′ : List ℕ) (t t′ : Tapes) (events outs : List (List ℕ)) → isRecord l ≡ true → Used l t events outs l′ t′ → AsUnit l t events outs l′ t′

@@ -39,7 +39,7 @@ resultBytes r = rowOf (r .answer) .number ∷ flag (r .given) ∷ r .byte ∷ li
 abbrev pub noRecord : List ℕ
 noRecord = rowOf Impossible .number ∷ flag false ∷ 0 ∷ linesBytes linesDown
 
--- A buffer that is a record: what the unit's step says of it, its turn as the result, and the record that it leaves written back.
+-- A buffer that is a record: the unit's step on what it holds. Its turn is the result, and what it leaves is written back.
 pub record Served (l : List ℕ) (t : Tapes) (event out l′ : List ℕ) (t′ : Tapes) : Type 0 where
   pub turn : Turn
   pub staging : List ℕ
@@ -54,7 +54,7 @@ pub record NotServed (l : List ℕ) (t : Tapes) (out l′ : List ℕ) (t′ : Ta
   pub left : l′ ≡ l
   pub tapes : t′ ≡ t
 
--- THE CONTRACT of one event step over bytes.
+-- THE CONTRACT of one event over bytes.
 pub data Serves (l : List ℕ) (t : Tapes) (event out l′ : List ℕ) (t′ : Tapes) : Type 0 where
   of-record : isRecord l ≡ true → Served l t event out l′ t′ → Serves l t event out l′ t′
   of-none : isRecord l ≡ false → NotServed l t out l′ t′ → Serves l t event out l′ t′
@@ -64,10 +64,11 @@ pub record Freshens (l : List ℕ) (r : ℕ) (l′ : List ℕ) : Type 0 where
   pub answer : r ≡ pick (fits l) (rowOf Taken .number) (rowOf Impossible .number)
   pub left : l′ ≡ pick (fits l) (unitBytes freshUnit) l
 
--- The lines of a buffer that holds a possible record; else they are down.
+-- Whether a buffer holds a possible record.
 unfoldable pub holds : List ℕ → Bool
 holds l = isRecord l && possible (coreOf l)
 
+-- The lines of a buffer that does; else they are down.
 pub record Shows (l : List ℕ) (r : ℕ) (out : List ℕ) : Type 0 where
   pub answer : r ≡ pick (holds l) (rowOf Taken .number) (rowOf Impossible .number)
   pub result : out ≡ linesBytes (pick (holds l) (linesOf (coreOf l)) linesDown)

@@ -1,12 +1,11 @@
 -- Every record is given back by its bytes.
-use Prim.Native.Nat.{ℕ, _+_, _*_, _%_, _/_}
+use Prim.Native.Nat.{ℕ, _+_, _%_, _/_}
 use mathlib.Core.Path.{_≡_, refl, sym, ap, _∙_}
-use mathlib.Core.Bool.{Bool, true, false, _&&_}
-use mathlib.Core.List.{List, [], _∷_, _++_}
+use mathlib.Core.Bool.{Bool, true, false}
+use mathlib.Core.List.{List, _++_}
 use native.Mathlib.Nat.{mod-add-div}
 use native.Mathlib.Omega.{arith}
-use lib.Dec.{eqb, leb}
-use lib.ListN.{length, getD, take, drop, length-append}
+use lib.ListN.{length, take, drop, length-append}
 use lib.Seq.{take-at, drop-append-add, take-all}
 use Rattle.tape.specs.Choice.{pick}
 use Rattle.rules.specs.declared.drive.Drive.{Drive}
@@ -15,12 +14,11 @@ use Rattle.rules.specs.declared.drive.Mode.the-variants.{Idle, Writing, Reading
 use Rattle.rules.specs.declared.unit.Phase.{Phase}
 use Rattle.rules.specs.declared.unit.Phase.the-variants.{Rest, Taking, Giving, Status}
 use Rattle.rules.specs.declared.unit.Port.{Port}
-use Rattle.rules.specs.declared.unit.Core.{Core}
 use Rattle.rules.specs.declared.unit.Unit.{Unit}
 use Rattle.rules.specs.Unit.{reportSize}
 use Rattle.layout.specs.Number.{of2, of4, of8}
 use Rattle.layout.specs.Written.{flag, modeByte, phaseByte, phaseNumber, driveBytes, portBytes, Sized, unitBytes, portSize, driveSize, recordSize}
-use Rattle.layout.specs.Read.{stretch, isFlag, isMode, isPhase, isLatched, isDrive, isPort, isRecord, flagOf, modeOf, phaseOf, driveOf, portOf, coreOf, stagingOf, unitOf}
+use Rattle.layout.specs.Read.{stretch, isFlag, isMode, isPhase, isDrive, isPort, isRecord, flagOf, modeOf, phaseOf, driveOf, portOf, coreOf, stagingOf}
 use Rattle.layout.specs.Laws.{ReadBack}
 use Rattle.layout.proofs.Parts.{six, port-long, drive-long}
 
@@ -159,7 +157,11 @@ laid u sized =
     let r2 = d2 ++ r3 in
     let r1 = d1 ++ r2 in
     let r0 = d0 ++ r1 in
-    let long : length (p ++ r0) ≡ 629 = length-append p r0 ∙ omega (arith, p-long, l0, l1, l2, l3, sized .staging, length-append d0 r1, length-append d1 r2, length-append d2 r3, length-append d3 g) in
+    let n0 = length-append d0 r1 in
+    let n1 = length-append d1 r2 in
+    let n2 = length-append d2 r3 in
+    let n3 = length-append d3 g in
+    let long : length (p ++ r0) ≡ 629 = length-append p r0 ∙ omega (arith, p-long, l0, l1, l2, l3, sized .staging, n0, n1, n2, n3) in
     record {
       port = here p r0 25 p-long;
       drive0 = skip p r0 25 0 23 p-long ∙ here d0 r1 23 l0;
@@ -175,6 +177,32 @@ unfolding isRecord coreOf stagingOf
 read-back u sized =
     let at = laid u sized in
     let k = u .core in (
-      rw (at .size, at .port, at .drive0, at .drive1, at .drive2, at .drive3, port-fits (k .port), drive-fits (k .drive0), drive-fits (k .drive1), drive-fits (k .drive2), drive-fits (k .drive3)) refl,
-      rw (at .port, at .drive0, at .drive1, at .drive2, at .drive3, at .staging, port-back (k .port) (sized .octets), drive-back (k .drive0), drive-back (k .drive1), drive-back (k .drive2), drive-back (k .drive3)) refl,
+      rw (
+        at .size,
+        at .port,
+        at .drive0,
+        at .drive1,
+        at .drive2,
+        at .drive3,
+        port-fits (k .port),
+        drive-fits (k .drive0),
+        drive-fits (k .drive1),
+        drive-fits (k .drive2),
+        drive-fits (k .drive3),
+      )
+          refl,
+      rw (
+        at .port,
+        at .drive0,
+        at .drive1,
+        at .drive2,
+        at .drive3,
+        at .staging,
+        port-back (k .port) (sized .octets),
+        drive-back (k .drive0),
+        drive-back (k .drive1),
+        drive-back (k .drive2),
+        drive-back (k .drive3),
+      )
+          refl,
     )

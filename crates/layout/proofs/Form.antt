@@ -1,19 +1,18 @@
 -- Bytes that are a record are the bytes of it.
 use Prim.Native.Nat.{ℕ, zero, suc, _+_, _*_, _%_, _/_, _<_, _≤_}
-use mathlib.Core.Path.{_≡_, refl, sym, ap, ap₂, subst, _∙_}
-use mathlib.Core.Bool.{Bool, true, false, _&&_, _||_}
+use mathlib.Core.Path.{_≡_, refl, sym, ap, ap₂, _∙_}
+use mathlib.Core.Bool.{true}
 use mathlib.Core.List.{List, [], _∷_, _++_}
 use native.Mathlib.Nat.{add-mul-mod-self-left, add-mul-div-left, mod-eq-of-lt, div-eq-of-lt, zero-add}
 use native.Mathlib.Omega.{arith}
 use borrow.Author.Tests.{leb-true, eqb-true}
-use lib.Dec.{eqb, leb}
-use lib.ListN.{length, getD, take, drop, length-drop, take-append-drop}
+use lib.ListN.{length, take, drop, length-drop, take-append-drop}
 use lib.Seq.{take-all, length-take-le, getD-take, getD-drop, drop-drop}
 use Rattle.tape.specs.Choice.{pick}
 use Rattle.rules.proofs.Bools.{both}
-use Rattle.layout.specs.Number.{two, four, eight, of2, of4, of8, byteAt, twoAt, fourAt, eightAt}
+use Rattle.layout.specs.Number.{two, four, eight, of2, of4, of8, byteAt, eightAt}
 use Rattle.layout.specs.Written.{flag, modeByte, phaseByte, phaseNumber, driveBytes, portBytes, unitBytes, portSize, driveSize, recordSize}
-use Rattle.layout.specs.Read.{stretch, isFlag, isMode, isPhase, isLatched, isDrive, isPort, isRecord, flagOf, modeOf, phaseOf, driveOf, portOf, coreOf, stagingOf, unitOf}
+use Rattle.layout.specs.Read.{stretch, isFlag, isMode, isPhase, isDrive, isPort, isRecord, flagOf, modeOf, phaseOf, driveOf, portOf, coreOf, stagingOf}
 use Rattle.layout.specs.Laws.{Octets, OneForm}
 use Rattle.layout.proofs.Parts.{each, each-is}
 
@@ -49,7 +48,8 @@ eight-form a b c d e f g h p q r s t u v =
 eight-at : (l : List ℕ) (n i : ℕ) → Small n l → i + 8 ≤ n
     → eight (eightAt l i) ≡ byteAt l i ∷ byteAt l (i + 1) ∷ byteAt l (i + 2) ∷ byteAt l (i + 2 + 1) ∷ byteAt l (i + 4) ∷ byteAt l (i + 4 + 1) ∷ byteAt l (i + 4 + 2) ∷ byteAt l (i + 4 + 2 + 1) ∷ []
 eight-at l n i small fits =
-    eight-form (byteAt l i) (byteAt l (i + 1)) (byteAt l (i + 2)) (byteAt l (i + 2 + 1)) (byteAt l (i + 4)) (byteAt l (i + 4 + 1)) (byteAt l (i + 4 + 2)) (byteAt l (i + 4 + 2 + 1))
+    eight-form (byteAt l i) (byteAt l (i + 1)) (byteAt l (i + 2)) (byteAt l (i + 2 + 1))
+    (byteAt l (i + 4)) (byteAt l (i + 4 + 1)) (byteAt l (i + 4 + 2)) (byteAt l (i + 4 + 2 + 1))
     (small i (omega (arith, fits))) (small (i + 1) (omega (arith, fits))) (small (i + 2) (omega (arith, fits))) (small (i + 2 + 1) (omega (arith, fits)))
     (small (i + 4) (omega (arith, fits))) (small (i + 4 + 1) (omega (arith, fits))) (small (i + 4 + 2) (omega (arith, fits)))
 

@@ -1,6 +1,6 @@
 -- Bytes read as a record: which bytes are one, and what it is.
 use Prim.Native.Nat.{ℕ}
-use mathlib.Core.Bool.{Bool, _&&_, _||_, not}
+use mathlib.Core.Bool.{Bool, _&&_, _||_}
 use mathlib.Core.List.{List, [], _∷_}
 use lib.Dec.{eqb, leb}
 use lib.ListN.{length, take, drop}
@@ -32,6 +32,7 @@ isMode b = leb b 2
 abbrev pub isPhase : ℕ → ℕ → Bool
 isPhase b n = leb b 3 && (leb 1 b || eqb n 0)
 
+-- Seven bools, a drive's bytes, the port's bytes.
 abbrev pub isLatched : List ℕ → Bool
 isLatched l =
     isFlag (byteAt l 12)
@@ -45,6 +46,7 @@ isDrive l =
 unfoldable pub isPort : List ℕ → Bool
 isPort l = eqb (byteAt l 0) version && (isFlag (byteAt l 9) && isPhase (byteAt l 10) (eightAt l 11))
 
+-- WHICH BYTES ARE A RECORD: as many as a record has, and each part of them what it should be. It may still be one that cannot be.
 unfoldable pub isRecord : List ℕ → Bool
 isRecord l =
     eqb (length l) recordSize
@@ -52,7 +54,7 @@ isRecord l =
     && (isDrive (stretch 25 driveSize l)
     && (isDrive (stretch 48 driveSize l) && (isDrive (stretch 71 driveSize l) && isDrive (stretch 94 driveSize l)))))
 
--- What the bytes say, field by field.
+-- What the bytes say, field by field, in the order in which they are written.
 abbrev pub flagOf : ℕ → Bool
 flagOf b = eqb b 1
 
@@ -112,6 +114,6 @@ stagingOf l = stretch 117 bodySize l
 abbrev pub unitOf : List ℕ → Unit
 unitOf l = record { core = coreOf l; staging = stagingOf l }
 
--- A buffer that has room for a record and no more.
+-- A buffer of a record's size, whatever is in it.
 abbrev pub fits : List ℕ → Bool
 fits l = eqb (length l) recordSize

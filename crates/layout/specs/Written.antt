@@ -31,6 +31,7 @@ driveSize = 23
 abbrev pub recordSize : ℕ
 recordSize = 629
 
+-- A bool and a mode.
 abbrev pub flag : Bool → ℕ
 flag false = 0
 flag true = 1
@@ -40,7 +41,7 @@ modeByte Idle = 0
 modeByte Writing = 1
 modeByte Reading = 2
 
--- A phase: which it is, and its number, 0 at Rest.
+-- A phase: which it is, and its number: of bytes so far, of octets outstanding, 0 at Rest.
 abbrev pub phaseByte : Phase → ℕ
 phaseByte Rest = 0
 phaseByte (Taking n) = 1
@@ -53,21 +54,24 @@ phaseNumber (Taking n) = n
 phaseNumber (Giving n) = n
 phaseNumber (Status k) = k
 
+-- The latched bits, a byte each.
 abbrev pub latchedBytes : Latched → List ℕ
 latchedBytes l = flag (l .cni) ∷ flag (l .eom) ∷ flag (l .ude) ∷ flag (l .fil) ∷ flag (l .ill) ∷ flag (l .ndt) ∷ flag (l .por) ∷ []
 
+-- A drive: cartridge and plug, head, mode and EXCEPTION, latched bits, errors, underruns.
 unfoldable pub driveBytes : Drive → List ℕ
 driveBytes d =
     (flag (d .loaded) ∷ flag (d .protected) ∷ [])
     ++ (eight (d .head)
     ++ ((modeByte (d .mode) ∷ flag (d .exception) ∷ []) ++ (latchedBytes (d .latched) ++ (two (d .errors .0) ++ two (d .underruns .0)))))
 
+-- The port: version, selected drive, ONLINE and phase, the phase's number, octets.
 unfoldable pub portBytes : Port → List ℕ
 portBytes p =
     (version ∷ [])
     ++ (eight (p .selected) ++ ((flag (p .online) ∷ phaseByte (p .phase) ∷ []) ++ (eight (phaseNumber (p .phase)) ++ p .octets)))
 
--- Bytes put at an offset of a buffer.
+-- A buffer after bytes were put at an offset of it: what was before and behind them stays.
 unfoldable pub placed : List ℕ → ℕ → List ℕ → List ℕ
 placed r at b = take at r ++ b ++ drop (at + length b) r
 
@@ -80,6 +84,7 @@ pub record Sized (u : Unit) : Type 0 where
   pub octets : length (u .core .port .octets) ≡ reportSize
   pub staging : length (u .staging) ≡ bodySize
 
+-- THE LAYOUT of a record: the port, four drives, the staging block.
 unfoldable pub unitBytes : Unit → List ℕ
 unitBytes u =
     portBytes (u .core .port)

@@ -159,6 +159,7 @@ fn drive_part(buffer: &[u8], at: usize) -> [u8; DRIVE]
     part
 }
 
+// The staging block of a record.
 pub fn staging_of(buffer: &[u8]) -> [u8; BODY]
     requires { do ⌜ (← ⟦buffer.len()⟧) ≡ recordSize ⌝ }
     ensures { λ r. ⌜ r ≡ stagingOf (now (buffer .entry)) ⌝ }
@@ -168,7 +169,7 @@ pub fn staging_of(buffer: &[u8]) -> [u8; BODY]
     part
 }
 
-// Whether bytes are a buffer, possible or not.
+// Whether a buffer is a record, possible or not.
 pub fn is_record(buffer: &[u8]) -> bool
     ensures { λ r. ⌜ r ≡ isRecord (now (buffer .entry)) ⌝ }
 {
@@ -184,6 +185,7 @@ pub fn is_record(buffer: &[u8]) -> bool
         & (is_drive(&drive0) & (is_drive(&drive1) & (is_drive(&drive2) & is_drive(&drive3))))
 }
 
+// All else of a record: the port and four drives.
 pub fn core_of(buffer: &[u8]) -> Core
     requires { do ⌜ (← ⟦buffer.len()⟧) ≡ recordSize ⌝ }
     ensures { λ r. ⌜ r ≡ coreOf (now (buffer .entry)) ⌝ }

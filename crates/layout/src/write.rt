@@ -21,6 +21,7 @@ use rules::Phase;
 use rules::Port;
 use tape::BODY;
 
+// A bool as a byte.
 pub fn flag(b: bool) -> u8
     ensures { λ r. ⌜ r ≡ flag b ⌝ }
 {

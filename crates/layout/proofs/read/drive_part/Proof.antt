@@ -1,40 +1,32 @@
+-- The copy is the stretch of 23 bytes from the offset on.
 use Rattle.layout.proofs.Parts.{part-copied}
 use mathlib.Core.Path.{refl}
-use Rattle.rules.specs.Tests.{tests, told}
 use borrow.Author.Needs.{needs}
 use Rattle.layout.proofs.read.drive_part.Statement.{statement}
 use Rattle.layout.proofs.read.drive_part.Tie as tie
-use Rattle.layout.proofs.read.drive_part.Reads as reads
-use Rattle.layout.proofs.read.drive_part.Lts as lts
-use Rattle.bytes.proofs.copy.Reads as copy-reads
 
--- src/read.rt:137:15
 add-end : tie.Need-add-end
 add-end c = search needs
 
--- src/read.rt:138:17
 sub-copy : tie.Need-sub-copy
 sub-copy c = search needs
 
--- src/read.rt:138:17
 part-copy-start : tie.Need-part-copy-start
 part-copy-start c = search needs
 
--- src/read.rt:138:17
 part-copy-end : tie.Need-part-copy-end
 part-copy-end c = search needs
 
--- src/read.rt:138:35
 slice-aggregate-copy : tie.Need-slice-aggregate-copy
 slice-aggregate-copy c = search needs
 
--- src/read.rt:138:5
 copy-requires : tie.Need-copy-requires
 copy-requires c κs = search needs
 
--- src/read.rt:132:1
 returns : tie.Need-returns
-returns c = let a = c .before .before .before .before .before .args in part-copied (a .buffer .now) (a .at) _ 23 _ _ refl refl (search needs) (c .before .copy .ensures .1)
+returns c =
+    let a = c .before .before .before .before .before .args in
+    part-copied (a .buffer .now) (a .at) _ 23 _ _ refl refl (search needs) (c .before .copy .ensures .1)
 
 pub drive-part-spec : {M : Type 1} → statement M
 drive-part-spec =
