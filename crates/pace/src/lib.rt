@@ -1,4 +1,5 @@
 // Loops over the step, for a program in C that takes their time.
+ghost use Prim.Native.Nat.{_≤_};
 ghost use mathlib.Core.Path.{_≡_};
 ghost use Rattle.rules.specs.Unit.{lent, freshCore};
 ghost use Rattle.rules.specs.Run.{world, run};
@@ -10,6 +11,7 @@ use tape::BODY;
 // The kinds without a body, 03 to 06, are events of one byte.
 fn size_of(kind: u8) -> usize
     ensures { λ r. ⌜ r ≡ sizeOf kind ⌝ }
+    ensures { λ r. ⌜ (1 ≤ r) × (r ≤ 2) ⌝ }
 {
     if (3 <= kind) & (kind <= 6) { 1 } else { 2 }
 }
@@ -71,7 +73,15 @@ pub extern "C" fn pace_core(
     ensures { λ r. ⌜ Paced (now (tape0 .entry)) (now (tape1 .entry)) (now (tape2 .entry)) (now (tape3 .entry)) (now (pairs .entry)) r (now (tape0 .exit)) (now (tape1 .exit)) (now (tape2 .exit)) (now (tape3 .exit)) ⌝ }
 {
     let mut staging = [0; BODY];
-    let after = run_core(Core::fresh(), &mut staging, tape0, tape1, tape2, tape3, pairs);
+    let after = run_core(
+        Core::fresh(),
+        &mut staging,
+        tape0,
+        tape1,
+        tape2,
+        tape3,
+        pairs,
+    );
     after.port.selected
 }
 

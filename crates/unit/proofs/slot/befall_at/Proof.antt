@@ -1,77 +1,50 @@
+-- Refused, or the drive's record changed and put back.
 use Rattle.unit.proofs.Settling.{slot-refused, slot-taken}
 use mathlib.Core.Path.{_∙_}
-use Rattle.rules.specs.Tests.{tests, told}
+use Rattle.rules.specs.Tests.{told}
 use borrow.Author.Needs.{needs}
 use Rattle.unit.proofs.slot.befall_at.Statement.{statement}
 use Rattle.unit.proofs.slot.befall_at.Tie as tie
-use Rattle.unit.proofs.slot.befall_at.Reads as reads
-use Rattle.unit.proofs.slot.befall_at.Lts as lts
-use Rattle.rules.proofs.unit.Core.put.Reads as put-reads
-use Rattle.rules.proofs.unit.Port.at_phase.Reads as at-phase-reads
-use Rattle.unit.proofs.answer.refuses.Reads as refuses-reads
-use Rattle.unit.proofs.record.possible.Reads as possible-reads
-use Rattle.unit.proofs.refuse.refusal_by.Reads as refusal-by-reads
-use Rattle.unit.proofs.refuse.slot_fits.Reads as slot-fits-reads
-use Rattle.unit.proofs.refuse.unless.Reads as unless-reads
-use Rattle.unit.proofs.slot.befall.Reads as befall-reads
-use Rattle.unit.proofs.slot.is_out.Reads as is-out-reads
-use Rattle.unit.proofs.slot.phase_after.Reads as phase-after-reads
-use Rattle.unit.proofs.turn.done.Reads as done-reads
-use Rattle.unit.proofs.turn.refuse.Reads as refuse-reads
 
--- src/slot.rt:72:9
 slot-fits-requires : tie.Need-slot-fits-requires
 slot-fits-requires c κs = search needs
 
--- src/slot.rt:73:29
 possible-requires : tie.Need-possible-requires
 possible-requires c κs = search needs
 
--- src/slot.rt:73:51
 unless-requires : tie.Need-unless-requires
 unless-requires c κs = search needs
 
--- src/slot.rt:73:9
 refusal-by-requires : tie.Need-refusal-by-requires
 refusal-by-requires c κs = search needs
 
--- src/slot.rt:74:8
 refuses-requires : tie.Need-refuses-requires
 refuses-requires c κs = search needs
 
--- src/slot.rt:75:9
 refuse-requires : tie.Need-refuse-requires
 refuse-requires c κs = search needs
 
--- src/slot.rt:75:9
 returns : tie.Need-returns
 returns c = let a = c .before .before .before .before .before .before .before .args in let answer = rw (c .before .before .before .before .before .possible .ensures, c .before .before .before .before .unless .ensures, c .before .before .before .before .before .before .slot-fits .ensures) at (c .before .before .before .refusal-by .ensures) in c .refuse .ensures ∙ slot-refused (a .core) (a .near) (a .i) (a .drive) (a .what) _ answer (told (c .before .before .refuses .ensures) (c .before .if1 .taken))
 
--- src/slot.rt:80:31
 phase-after-requires : tie.Need-phase-after-requires
 phase-after-requires c κs = search needs
 
--- src/slot.rt:80:9
 at-phase-requires : tie.Need-at-phase-requires
 at-phase-requires c κs = search needs
 
--- src/slot.rt:81:9
 befall-requires : tie.Need-befall-requires
 befall-requires c κs = search needs
 
--- src/slot.rt:82:10
 is-out-requires : tie.Need-is-out-requires
 is-out-requires c κs = search needs
 
--- src/slot.rt:82:34
 put-requires : tie.Need-put-requires
 put-requires c κs = search needs
 
--- src/slot.rt:82:5
 done-requires : tie.Need-done-requires
 done-requires c κs = search needs
 
--- src/slot.rt:69:1
 returns-2 : tie.Need-returns-2
 returns-2 c = let a = c .before .before .before .before .before .before .before .before .before .before .before .before .before .before .args in let answer = rw (c .before .before .before .before .before .before .before .before .before .before .before .before .possible .ensures, c .before .before .before .before .before .before .before .before .before .before .before .unless .ensures, c .before .before .before .before .before .before .before .before .before .before .before .before .before .slot-fits .ensures) at (c .before .before .before .before .before .before .before .before .before .before .refusal-by .ensures) in rw (c .done .ensures, c .before .put .ensures, c .before .before .is-out .ensures, c .before .before .before .befall .ensures, c .before .before .before .before .at-phase .ensures, c .before .before .before .before .before .phase-after .ensures) (slot-taken (a .core) (a .near) (a .i) (a .drive) (a .what) _ answer (told (c .before .before .before .before .before .before .before .before .before .refuses .ensures) (c .before .before .before .before .before .before .before .before .if1 .left)))
 

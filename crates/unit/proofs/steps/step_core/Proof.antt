@@ -1,3 +1,4 @@
+-- Each sort of event as the book settles it.
 use Rattle.unit.proofs.Settling.{steps-by, none-refused}
 use Rattle.rules.specs.Step.{stepped}
 use Rattle.rules.specs.Refusal.{short}
@@ -5,101 +6,70 @@ use Rattle.rules.specs.Unit.{lent}
 use Rattle.rules.specs.declared.answer.Turn.{Turn}
 use Rattle.rules.specs.declared.event.Event.the-variants.{NoEvent, Reset}
 use mathlib.Core.Path.{ap, _∙_}
-use Rattle.rules.specs.Tests.{tests, told}
 use borrow.Author.Needs.{needs}
 use Rattle.unit.proofs.steps.step_core.Statement.{statement}
 use Rattle.unit.proofs.steps.step_core.Tie as tie
-use Rattle.unit.proofs.steps.step_core.Reads as reads
-use Rattle.unit.proofs.steps.step_core.Lts as lts
-use Rattle.unit.proofs.event.event_of.Reads as event-of-reads
-use Rattle.unit.proofs.own.own.Reads as own-reads
-use Rattle.unit.proofs.record.possible.Reads as possible-reads
-use Rattle.unit.proofs.refuse.refusal_by.Reads as refusal-by-reads
-use Rattle.unit.proofs.refuse.short.Reads as short-reads
-use Rattle.unit.proofs.slot.slot.Reads as slot-reads
-use Rattle.unit.proofs.steps.reset.Reads as reset-reads
-use Rattle.unit.proofs.turn.refuse.Reads as refuse-reads
 
--- src/steps.rt:47:9
 event-of-requires : tie.Need-event-of-requires
 event-of-requires c κs = search needs
 
--- src/steps.rt:48:9
 short-requires : tie.Need-short-requires
 short-requires c κs = search needs
 
--- src/steps.rt:50:45
 enum-told : tie.Need-enum-told
 enum-told c = search needs
 
--- src/steps.rt:50:45
 possible-requires : tie.Need-possible-requires
 possible-requires c κs = search needs
 
--- src/steps.rt:50:34
 refusal-by-requires : tie.Need-refusal-by-requires
 refusal-by-requires c κs = search needs
 
--- src/steps.rt:50:27
 refuse-requires : tie.Need-refuse-requires
 refuse-requires c κs = search needs
 
--- src/steps.rt:51:25
 enum-told-2 : tie.Need-enum-told-2
 enum-told-2 c = search needs
 
--- src/steps.rt:51:25
 reset-requires : tie.Need-reset-requires
 reset-requires c κs = search needs
 
--- src/steps.rt:52:22
 enum-known-e : tie.Need-enum-known-e
 enum-known-e c = search needs
 
--- src/steps.rt:52:34
 slot-requires : tie.Need-slot-requires
 slot-requires c κs = search needs
 
--- src/steps.rt:53:20
 enum-known-e-2 : tie.Need-enum-known-e-2
 enum-known-e-2 c = search needs
 
--- src/steps.rt:53:26
 own-requires : tie.Need-own-requires
 own-requires c κs = search needs
 
--- src/steps.rt:36:1
 returns : tie.Need-returns
 unfolding short
 returns c = let a = c .before .before .before .before .before .before .before .before .before .before .before .before .args in let l = lent (a .staging .now) (a .tape0 .now) (a .tape1 .now) (a .tape2 .now) (a .tape3 .now) in steps-by (a .core) l (a .event .now) _ l _ NoEvent _ (c .before .before .before .before .before .before .event-of .ensures) (c .before .before .before .enum-told .given .1) (c .before .before .before .before .before .short .ensures) (ap (λ (x : Turn). stepped x l) (c .refuse .ensures) ∙ none-refused (a .core) _ _ (rw (c .before .before .possible .ensures) at (c .before .refusal-by .ensures)) l)
 
--- src/steps.rt:36:1
 returns-2 : tie.Need-returns-2
 unfolding short
 returns-2 c = let a = c .before .before .before .before .before .before .before .before .before .before .args in let l = lent (a .staging .now) (a .tape0 .now) (a .tape1 .now) (a .tape2 .now) (a .tape3 .now) in steps-by (a .core) l (a .event .now) _ l _ Reset _ (c .before .before .before .before .event-of .ensures) (c .before .enum-told2 .given .1) (c .before .before .before .short .ensures) (c .reset .ensures l)
 
--- src/steps.rt:36:1
 returns-3 : tie.Need-returns-3
 unfolding short
 returns-3 c = let a = c .before .before .before .before .before .before .before .before .before .before .before .args in let l = lent (a .staging .now) (a .tape0 .now) (a .tape1 .now) (a .tape2 .now) (a .tape3 .now) in steps-by (a .core) l (a .event .now) _ l _ _ _ (c .before .before .before .before .before .event-of .ensures) (c .before .before .e .given .1) (c .before .before .before .before .short .ensures) (c .slot .ensures l)
 
--- src/steps.rt:36:1
 same-length : tie.Need-same-length
 same-length c = search needs
 
--- src/steps.rt:36:1
 same-length-2 : tie.Need-same-length-2
 same-length-2 c = search needs
 
--- src/steps.rt:36:1
 same-length-3 : tie.Need-same-length-3
 same-length-3 c = search needs
 
--- src/steps.rt:36:1
 same-length-4 : tie.Need-same-length-4
 same-length-4 c = search needs
 
--- src/steps.rt:36:1
 returns-4 : tie.Need-returns-4
 unfolding short
 returns-4 c = let a = c .before .before .before .before .before .before .before .before .before .before .before .before .before .before .before .before .before .before .before .before .before .before .before .before .args in let l = lent (a .staging .now) (a .tape0 .now) (a .tape1 .now) (a .tape2 .now) (a .tape3 .now) in steps-by (a .core) l (a .event .now) _ _ _ _ _ (c .before .before .before .before .before .before .before .before .before .before .before .before .before .before .before .before .before .before .event-of .ensures) (c .before .before .before .before .before .before .before .before .before .before .before .before .before .before .before .e2 .given .1) (c .before .before .before .before .before .before .before .before .before .before .before .before .before .before .before .before .before .short .ensures) (c .before .before .before .before .before .before .before .before .own .ensures)

@@ -1,0 +1,14 @@
+-- The contract that both loops share leaves one outcome.
+use mathlib.Core.Path.{_≡_, sym, _∙_}
+use Rattle.pace.specs.Outcomes.{OneOutcome}
+
+same : {A : Type 0} {x r r′ : A} → r ≡ x → r′ ≡ x → r ≡ r′
+same p q = p ∙ sym q
+
+pub one-outcome : OneOutcome
+one-outcome =
+    record {
+      paced =
+          λ a b c d pairs r r′ a′ b′ c′ d′ a″ b″ c″ d″ p q.
+          (same (p .selected) (q .selected), same (p .tape0) (q .tape0), same (p .tape1) (q .tape1), same (p .tape2) (q .tape2), same (p .tape3) (q .tape3));
+    }

@@ -1,0 +1,38 @@
+-- The loop from a fresh core.
+use Rattle.pace.proofs.Turns.{paced-of}
+use borrow.Author.Needs.{needs}
+use Rattle.pace.proofs.pace_core.Statement.{statement}
+use Rattle.pace.proofs.pace_core.Tie as tie
+
+fresh-requires : tie.Need-fresh-requires
+fresh-requires c κs = search needs
+
+run-core-requires : tie.Need-run-core-requires
+run-core-requires c κs = search needs
+
+same-length : tie.Need-same-length
+same-length c = search needs
+
+same-length-2 : tie.Need-same-length-2
+same-length-2 c = search needs
+
+same-length-3 : tie.Need-same-length-3
+same-length-3 c = search needs
+
+same-length-4 : tie.Need-same-length-4
+same-length-4 c = search needs
+
+returns : tie.Need-returns
+returns c = let a = c .before .before .before .before .before .before .before .before .before .before .before .before .before .before .before .before .before .before .before .before .args in paced-of (a .tape0 .now) (a .tape1 .now) (a .tape2 .now) (a .tape3 .now) (a .pairs .now) _ _ _ _ _ _ (rw (c .before .before .before .before .before .before .before .before .before .before .before .before .before .before .fresh .ensures) at (c .before .before .before .before .before .before .before .before .run-core .ensures))
+
+pub pace-core-spec : {M : Type 1} → statement M
+pace-core-spec =
+    tie.close
+    (tie.spec
+    fresh-requires
+    run-core-requires
+    same-length
+    same-length-2
+    same-length-3
+    same-length-4
+    returns)
