@@ -32,7 +32,7 @@ static void by_length(void) {
            "| length | byte given | byte taken | READ STATUS, six octets | SELECT | READ FILE MARK | ERASE |\n"
            "|---|---|---|---|---|---|---|\n");
     for (size_t l = KIB; l <= LONGEST; l *= l < MIB ? 32 : 16) {
-        size_t few = 16 * (size_t)MIB / l < 2000 ? 1 + 16 * (size_t)MIB / l : 2000;
+        size_t few = l < 32 * KIB ? 2000 : 1 + 4 * (size_t)LONGEST / l;
         size(l);
         if (l < WRITE_ROOM) printf(" no room |");
         else cell((struct row){.length = l, .times = 1000, .make = make_given, .subtract = true}, 0);
