@@ -1,0 +1,95 @@
+// Prints the table: the proved unit against plain C, on the same events, in the same run.
+#include "bench.h"
+#include <stdio.h>
+#include <stdlib.h>
+#include <string.h>
+
+enum { SHORT = 65536, MIDDLE = 2097152, CABLE = 2000000 };
+
+static const struct row rows[] = {
+    {"a byte given, within a block", SHORT, 4000, EMPTY, make_given, true, 1, 3, 5},
+    {"a byte taken, within a block", SHORT, 4000, BLOCKS, make_taken, true, 1, 3, 5},
+    {"a block written: 512 bytes, its recording", MIDDLE, 4000, EMPTY, make_written, false, 1, 3, 5},
+    {"a block read: 512 bytes", MIDDLE, 4000, BLOCKS, make_read, false, 1, 3, 5},
+    {"READ STATUS and its six octets", SHORT, 250000, EMPTY, make_report, false, 1, 5, 5},
+    {"SELECT", SHORT, 1000000, EMPTY, make_select, false, 1, 5, 5},
+    {"a count event", SHORT, 500000, EMPTY, make_count, false, 1, 5, 5},
+    {"READ FILE MARK over 16 MiB, each record", LONGEST, 8, BLOCKS, make_mark, false, LONGEST / BLOCK, 1.5, 1.5},
+    {"ERASE of 16 MiB, each KiB", LONGEST, 8, BLOCKS, make_erase, false, LONGEST / 1024, 1.2, 1.2},
+};
+static const struct row mixed = {"a mixed trace", 16384, 200, EMPTY, make_mixed, false, 1, 0, 0};
+enum { ROWS = sizeof rows / sizeof rows[0] };
+
+// The ways agree on a shortened input after each event, and on the whole one at the end.
+static void agree(struct row row, size_t part) {
+    struct input in = {0};
+    size_t few = row.times > 1000 ? 1000 : row.times > 100 ? 20 : 2;
+    add_start(&in);
+    row.make(&in, few, false);
+    lend(&row, 0);
+    agree_each(&row, &in);
+    in.used = 0;
+    add_start(&in);
+    row.make(&in, row.times / part ? row.times / part : 1, false);
+    agree_end(&row, &in);
+    free(in.pairs);
+}
+
+static void show_way(const struct times *t, enum way way) {
+    const double *ns = t->ns[way];
+    printf(" %.2f (%.2f to %.2f) |", median(t, way), ns[0], ns[t->rounds - 1]);
+}
+
+// A way of the proved unit: its time, and the ratio to the baseline.
+static bool show_ratio(const struct times *t, enum way way, double bar) {
+    double ratio = median(t, way) / median(t, PLAIN);
+    show_way(t, way);
+    printf(" %.2f |", ratio);
+    return ratio <= bar;
+}
+
+static void show(const struct row *row, const struct times *t) {
+    printf("| %s |", row->name);
+    show_way(t, PLAIN);
+    bool core = show_ratio(t, CORE, row->core_bar), unit = show_ratio(t, WHOLE, row->unit_bar);
+    printf(" %g and %g | %s, %s |\n", row->core_bar, row->unit_bar, core ? "met" : "missed", unit ? "met" : "missed");
+    fflush(stdout);
+}
+
+static void table(size_t rounds, size_t part, struct times *first) {
+    printf("| row | C | core | ratio | unit | ratio | bar, core and unit | core, unit |\n"
+           "|---|---|---|---|---|---|---|---|\n");
+    for (size_t i = 0; i < ROWS; i++) {
+        struct row row = rows[i];
+        struct times t;
+        row.times = row.times / part ? row.times / part : 1;
+        lend(&row, 0);
+        measure(&row, rounds, i < 2 ? WAYS : BOARD, &t);
+        show(&row, &t);
+        if (i < 2) first[i] = t;
+    }
+}
+
+static void headroom(const struct times *first) {
+    static const char *const names[WAYS] = {"plain C", "the step on a core", "the step on a unit", "glenoulty_step"};
+    printf("\nHeadroom over a cable that moves %d bytes a second.\n\n"
+           "| way | bytes given a second | times the cable | bytes taken a second | times the cable |\n"
+           "|---|---|---|---|---|\n", CABLE);
+    for (enum way way = PLAIN; way < WAYS; way++) {
+        double give = 1e9 / median(&first[0], way), take = 1e9 / median(&first[1], way);
+        printf("| %s | %.0f | %.1f | %.0f | %.1f |\n", names[way], give, give / CABLE, take, take / CABLE);
+    }
+}
+
+int main(int count, char **words) {
+    bool smoke = count > 1 && !strcmp(words[1], "--smoke");
+    size_t part = smoke ? 1000 : 1;
+    struct times first[2];
+    for (size_t i = 0; i < ROWS; i++) agree(rows[i], part);
+    agree(mixed, part);
+    printf("Answers, bytes, lines and tapes agree in all %d rows and on a mixed trace.\n\n", ROWS);
+    table(smoke ? 1 : 9, part, first);
+    headroom(first);
+    growth(smoke);
+    return 0;
+}
