@@ -1,7 +1,7 @@
 // Loops over the step, for a program in C that takes their time.
 ghost use Prim.Native.Nat.{_≤_};
 ghost use mathlib.Core.Path.{_≡_};
-ghost use Rattle.rules.specs.Unit.{lent, freshCore};
+ghost use Rattle.rules.specs.Unit.{lent};
 ghost use Rattle.rules.specs.Run.{world, run};
 ghost use Rattle.pace.specs.Pairs.{sizeOf, pairsOf, Paced};
 use rules::Core;

@@ -1,10 +1,8 @@
 // What a step hands back.
 ghost use mathlib.Core.Path.{_≡_};
-ghost use mathlib.Core.Bool.{false};
 ghost use Rattle.tape.specs.Choice.{pick};
 ghost use Rattle.rules.specs.declared.answer.Answer.the-variants.{Taken, Raised};
-ghost use Rattle.rules.specs.Answer.{rowOf};
-ghost use Rattle.rules.specs.Lines.{linesOf, linesDown};
+ghost use Rattle.unit.specs.Meant.{refusedTurn, takenTurn};
 use crate::cable::lines;
 use crate::cable::lines_after;
 use rules::Answer;
@@ -24,7 +22,7 @@ fn taken(raised: bool) -> Answer
 
 // An event that was taken, and the core as it is left.
 pub(crate) fn done(raised: bool, given: bool, byte: u8, core: Core) -> Turn
-    ensures { λ r. ⌜ r ≡ record { answer = pick raised Raised Taken; given = given; byte = byte; lines = linesOf core; core = core } ⌝ }
+    ensures { λ r. ⌜ r ≡ takenTurn raised given byte core ⌝ }
 {
     let answer = taken(raised);
     let lines = lines(core);
@@ -39,7 +37,7 @@ pub(crate) fn done(raised: bool, given: bool, byte: u8, core: Core) -> Turn
 
 // An event that was refused: the core as found, no byte.
 pub(crate) fn refuse(answer: Answer, core: Core) -> Turn
-    ensures { λ r. ⌜ r ≡ record { answer = answer; given = false; byte = 0; lines = pick (rowOf answer .linesDown) linesDown (linesOf core); core = core } ⌝ }
+    ensures { λ r. ⌜ r ≡ refusedTurn answer core ⌝ }
 {
     let lines = lines_after(answer, core);
     Turn {

@@ -1,7 +1,6 @@
-use mathlib.Core.Path.{refl}
+use mathlib.Core.Path.{refl, _≡_, ap, _∙_}
 -- What is left to run from pair i comes to the whole run.
 use Prim.Native.Nat.{_≤_, _-_, _+_}
-use mathlib.Core.Path.{_≡_, ap, _∙_}
 use native.Mathlib.Omega.{arith}
 use lib.ListN.{length, drop}
 use Rattle.rules.specs.Unit.{lent}

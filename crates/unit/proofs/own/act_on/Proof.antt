@@ -1,6 +1,5 @@
 -- Refused, or staged, acted and put back: what each call ensures comes to the book's act.
-use Rattle.unit.proofs.Settling.{own-lands}
-use Rattle.unit.proofs.Settling.{own-refused}
+use Rattle.unit.proofs.Settling.{own-lands, own-refused}
 use Rattle.unit.specs.Meant.{kept}
 use Rattle.rules.specs.Step.{act}
 use Rattle.rules.specs.declared.answer.Turn.{Turn}

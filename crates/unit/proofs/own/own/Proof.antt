@@ -1,9 +1,8 @@
 -- The selected drive by its number; one that is none of 0, 1 and 2 means the last.
 use Rattle.rules.specs.Step.{stepped}
-use Rattle.rules.specs.Unit.{putStaging}
+use Rattle.rules.specs.Unit.{putStaging, lent, oneOf, putAt, putLast}
 use mathlib.Core.Path.{refl, sym, ap, _∙_}
 use Rattle.unit.proofs.Settling.{own-at, last-one, last-tape}
-use Rattle.rules.specs.Unit.{lent, oneOf, putAt, putLast}
 use Rattle.tape.specs.Choice.{pick}
 use borrow.Author.Needs.{needs}
 use Rattle.unit.proofs.own.own.Statement.{statement}
