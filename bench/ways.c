@@ -5,8 +5,8 @@
 
 // The archive of the crate pace.
 #define LENT uint8_t *, size_t, uint8_t *, size_t, uint8_t *, size_t, uint8_t *, size_t
-size_t pace_core(LENT, const uint8_t *pairs, size_t pairs_length);
-size_t pace_unit(LENT, const uint8_t *pairs, size_t pairs_length);
+uint8_t pace_core(LENT, const uint8_t *pairs, size_t pairs_length);
+uint8_t pace_unit(LENT, const uint8_t *pairs, size_t pairs_length);
 
 #define TAPES \
     lent[0].bytes, lent[0].length, lent[1].bytes, lent[1].length, lent[2].bytes, lent[2].length, lent[3].bytes, \

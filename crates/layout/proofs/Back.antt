@@ -110,7 +110,7 @@ drive-fits d =
 
 port-back : (p : Port) → length (p .octets) ≡ reportSize → portOf (portBytes p) ≡ p
 unfolding portOf portBytes
-port-back p size = rw (eight-back (p .selected), flag-back (p .online), eight-back (phaseNumber (p .phase)), phase-back (p .phase), six (p .octets) size) refl
+port-back p size = rw (flag-back (p .online), eight-back (phaseNumber (p .phase)), phase-back (p .phase), six (p .octets) size) refl
 
 port-fits : (p : Port) → isPort (portBytes p) ≡ true
 unfolding isPort portBytes

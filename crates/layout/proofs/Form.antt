@@ -6,6 +6,7 @@ use mathlib.Core.List.{List, [], _∷_, _++_}
 use native.Mathlib.Nat.{add-mul-mod-self-left, add-mul-div-left, mod-eq-of-lt, div-eq-of-lt, zero-add}
 use native.Mathlib.Omega.{arith}
 use borrow.Author.Tests.{leb-true, eqb-true}
+use lib.Dec.{eqb}
 use lib.ListN.{length, take, drop, length-drop, take-append-drop}
 use lib.Seq.{take-all, length-take-le, getD-take, getD-drop, drop-drop}
 use Rattle.tape.specs.Choice.{pick}
@@ -52,6 +53,9 @@ eight-at l n i small fits =
     (byteAt l (i + 4)) (byteAt l (i + 4 + 1)) (byteAt l (i + 4 + 2)) (byteAt l (i + 4 + 2 + 1))
     (small i (omega (arith, fits))) (small (i + 1) (omega (arith, fits))) (small (i + 2) (omega (arith, fits))) (small (i + 2 + 1) (omega (arith, fits)))
     (small (i + 4) (omega (arith, fits))) (small (i + 4 + 1) (omega (arith, fits))) (small (i + 4 + 2) (omega (arith, fits)))
+
+zero-form : (b : ℕ) → eqb b 0 ≡ true → 0 ≡ b
+zero-form b e = sym (eqb-true b 0 e)
 
 flag-form : (b : ℕ) → isFlag b ≡ true → flag (flagOf b) ≡ b
 flag-form zero e = refl
@@ -113,15 +117,25 @@ drive-form d size small so =
 port-form : (p : List ℕ) → length p ≡ portSize → Small portSize p → isPort p ≡ true → portBytes (portOf p) ≡ p
 unfolding isPort portOf portBytes
 port-form p size small so =
-    let selected = eight-at p portSize 1 small (omega arith) in
     let number = eight-at p portSize 11 small (omega arith) in
     let all : each portSize 0 p ≡ p = each-is portSize 0 p (omega (arith, size)) ∙ take-all portSize p (omega (arith, size)) in
     let s0 = both _ _ so in
     let s1 = both _ _ (s0 .1) in
-    let phase = phase-form (byteAt p 10) (eightAt p 11) (s1 .1) in
+    let s2 = both _ _ (s1 .1) in
+    let z0 = both _ _ (s1 .0) in
+    let z1 = both _ _ (z0 .1) in
+    let z2 = both _ _ (z1 .1) in
+    let z3 = both _ _ (z2 .1) in
+    let z4 = both _ _ (z3 .1) in
+    let z5 = both _ _ (z4 .1) in
+    let zeros =
+    then (zero-form (byteAt p 2) (z0 .0)) (then (zero-form (byteAt p 3) (z1 .0)) (then (zero-form (byteAt p 4) (z2 .0)) (then (zero-form (byteAt p 5) (z3 .0))
+    (then (zero-form (byteAt p 6) (z4 .0)) (then (zero-form (byteAt p 7) (z5 .0)) (then (zero-form (byteAt p 8) (z5 .1)) ends)))))) in
+    let selected = ap (λ (r : List ℕ). byteAt p 1 ∷ r) zeros in
+    let phase = phase-form (byteAt p 10) (eightAt p 11) (s2 .1) in
     let version = then (sym (eqb-true (byteAt p 0) 1 (s0 .0))) ends in
     let octets : each 6 19 p ≡ each 6 19 p = refl in
-    let line = ap₂ pair (flag-form (byteAt p 9) (s1 .0)) (phase .0) in
+    let line = ap₂ pair (flag-form (byteAt p 9) (s2 .0)) (phase .0) in
     joined version (joined selected (joined line (joined (ap eight (phase .1) ∙ number) octets))) ∙ all
 
 -- what a stretch has of the whole

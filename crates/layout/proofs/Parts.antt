@@ -58,13 +58,13 @@ unfolding driveBytes
 drive-listed d h e u a b m x c0 c1 c2 c3 c4 c5 c6 p0 p1 p2 p3 p4 p5 p6 p7 p8 p9 p10 p11 p12 p13 =
     rw (p0, p1, p2, p3, p4, p5, p6, p7, p8, p9, p10, p11, p12, p13) refl
 
-pub port-listed : (p : Port) (s n : List ℕ) (x b : ℕ) → length (p .octets) ≡ 6
-    → s ≡ eight (p .selected) → n ≡ eight (phaseNumber (p .phase)) → x ≡ flag (p .online) → b ≡ phaseByte (p .phase)
-    → 1 ∷ getD s 0 0 ∷ getD s 1 0 ∷ getD s 2 0 ∷ getD s 3 0 ∷ getD s 4 0 ∷ getD s 5 0 ∷ getD s 6 0 ∷ getD s 7 0 ∷ x ∷ b
+pub port-listed : (p : Port) (n : List ℕ) (x b : ℕ) → length (p .octets) ≡ 6
+    → n ≡ eight (phaseNumber (p .phase)) → x ≡ flag (p .online) → b ≡ phaseByte (p .phase)
+    → 1 ∷ p .selected ∷ 0 ∷ 0 ∷ 0 ∷ 0 ∷ 0 ∷ 0 ∷ 0 ∷ x ∷ b
     ∷ getD n 0 0 ∷ getD n 1 0 ∷ getD n 2 0 ∷ getD n 3 0 ∷ getD n 4 0 ∷ getD n 5 0 ∷ getD n 6 0 ∷ getD n 7 0
     ∷ getD (p .octets) 0 0 ∷ getD (p .octets) 1 0 ∷ getD (p .octets) 2 0 ∷ getD (p .octets) 3 0 ∷ getD (p .octets) 4 0 ∷ getD (p .octets) 5 0 ∷ [] ≡ portBytes p
 unfolding portBytes
-port-listed p s n x b size p0 p1 p2 p3 = rw (p0, p1, p2, p3, six (p .octets) size) refl
+port-listed p n x b size p0 p1 p2 = rw (p0, p1, p2, six (p .octets) size) refl
 
 -- what stands up to the end of what was put, and that the buffer keeps its length
 put-next : (r b w : List ℕ) (at : ℕ) → at + length b ≤ length r → take at r ≡ w → take (at + length b) (placed r at b) ≡ w ++ b

@@ -32,6 +32,13 @@ isMode b = leb b 2
 abbrev pub isPhase : ℕ → ℕ → Bool
 isPhase b n = leb b 3 && (leb 1 b || eqb n 0)
 
+-- The selected drive is a byte in the room of eight: behind it zeros, or a record would have many forms.
+abbrev pub isPadded : List ℕ → Bool
+isPadded l =
+    eqb (byteAt l 2) 0
+    && (eqb (byteAt l 3) 0
+    && (eqb (byteAt l 4) 0 && (eqb (byteAt l 5) 0 && (eqb (byteAt l 6) 0 && (eqb (byteAt l 7) 0 && eqb (byteAt l 8) 0)))))
+
 -- Seven bools, a drive's bytes, the port's bytes.
 abbrev pub isLatched : List ℕ → Bool
 isLatched l =
@@ -44,7 +51,7 @@ isDrive l =
     isFlag (byteAt l 0) && (isFlag (byteAt l 1) && (isMode (byteAt l 10) && (isFlag (byteAt l 11) && isLatched l)))
 
 unfoldable pub isPort : List ℕ → Bool
-isPort l = eqb (byteAt l 0) version && (isFlag (byteAt l 9) && isPhase (byteAt l 10) (eightAt l 11))
+isPort l = eqb (byteAt l 0) version && (isPadded l && (isFlag (byteAt l 9) && isPhase (byteAt l 10) (eightAt l 11)))
 
 -- WHICH BYTES ARE A RECORD: as many as a record has, and each part of them what it should be. It may still be one that cannot be.
 unfoldable pub isRecord : List ℕ → Bool
@@ -92,7 +99,7 @@ driveOf l =
 unfoldable pub portOf : List ℕ → Port
 portOf l =
     record {
-      selected = eightAt l 1;
+      selected = byteAt l 1;
       online = flagOf (byteAt l 9);
       phase = phaseOf (byteAt l 10) (eightAt l 11);
       octets = byteAt l 19 ∷ byteAt l 20 ∷ byteAt l 21 ∷ byteAt l 22 ∷ byteAt l 23 ∷ byteAt l 24 ∷ [];

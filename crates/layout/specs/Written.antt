@@ -15,7 +15,7 @@ use Rattle.rules.specs.declared.unit.Port.{Port}
 use Rattle.rules.specs.declared.unit.Core.{Core}
 use Rattle.rules.specs.declared.unit.Unit.{Unit}
 use Rattle.rules.specs.Unit.{reportSize}
-use Rattle.layout.specs.Number.{two, eight}
+use Rattle.layout.specs.Number.{two, eight, padded}
 
 -- The first byte of every record.
 abbrev pub version : ℕ
@@ -69,7 +69,7 @@ driveBytes d =
 unfoldable pub portBytes : Port → List ℕ
 portBytes p =
     (version ∷ [])
-    ++ (eight (p .selected) ++ ((flag (p .online) ∷ phaseByte (p .phase) ∷ []) ++ (eight (phaseNumber (p .phase)) ++ p .octets)))
+    ++ (padded (p .selected) ++ ((flag (p .online) ∷ phaseByte (p .phase) ∷ []) ++ (eight (phaseNumber (p .phase)) ++ p .octets)))
 
 -- A buffer after bytes were put at an offset of it: what was before and behind them stays.
 unfoldable pub placed : List ℕ → ℕ → List ℕ → List ℕ

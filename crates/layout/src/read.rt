@@ -86,7 +86,10 @@ fn phase_number(p: &[u8; PORT]) -> usize
 fn is_port(p: &[u8; PORT]) -> bool
     ensures { λ r. ⌜ r ≡ isPort (now (p .entry)) ⌝ }
 {
-    (p[0] == VERSION) & ((p[9] <= 1) & is_phase(p[10], phase_number(p)))
+    let padded = (p[2] == 0)
+        & ((p[3] == 0)
+            & ((p[4] == 0) & ((p[5] == 0) & ((p[6] == 0) & ((p[7] == 0) & (p[8] == 0))))));
+    (p[0] == VERSION) & (padded & ((p[9] <= 1) & is_phase(p[10], phase_number(p))))
 }
 
 fn latched_of(p: &[u8; DRIVE]) -> Latched
@@ -127,13 +130,9 @@ fn drive_of(p: &[u8; DRIVE]) -> Drive
 fn port_of(p: &[u8; PORT]) -> Port
     ensures { λ r. ⌜ r ≡ portOf (now (p .entry)) ⌝ }
 {
-    let selected = of_eight(
-        of_four(p[1], p[2], p[3], p[4]),
-        of_four(p[5], p[6], p[7], p[8]),
-    );
     let phase = phase_of(p[10], phase_number(p));
     Port {
-        selected,
+        selected: p[1],
         online: p[9] == 1,
         phase,
         octets: [p[19], p[20], p[21], p[22], p[23], p[24]],

@@ -99,19 +99,18 @@ fn port_bytes(port: Port) -> [u8; PORT]
     ensures { λ r. ⌜ r ≡ portBytes port ⌝ }
 {
     let phase = port.phase;
-    let s = eight(port.selected);
     let n = eight(phase_number(phase));
     let o = port.octets;
     [
         VERSION,
-        s[0],
-        s[1],
-        s[2],
-        s[3],
-        s[4],
-        s[5],
-        s[6],
-        s[7],
+        port.selected,
+        0,
+        0,
+        0,
+        0,
+        0,
+        0,
+        0,
         flag(port.online),
         phase_byte(phase),
         n[0],

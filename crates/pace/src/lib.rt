@@ -69,7 +69,7 @@ pub extern "C" fn pace_core(
     tape2: &mut [u8],
     tape3: &mut [u8],
     pairs: &[u8],
-) -> usize
+) -> u8
     ensures { λ r. ⌜ Paced (now (tape0 .entry)) (now (tape1 .entry)) (now (tape2 .entry)) (now (tape3 .entry)) (now (pairs .entry)) r (now (tape0 .exit)) (now (tape1 .exit)) (now (tape2 .exit)) (now (tape3 .exit)) ⌝ }
 {
     let mut staging = [0; BODY];
@@ -93,7 +93,7 @@ pub extern "C" fn pace_unit(
     tape2: &mut [u8],
     tape3: &mut [u8],
     pairs: &[u8],
-) -> usize
+) -> u8
     ensures { λ r. ⌜ Paced (now (tape0 .entry)) (now (tape1 .entry)) (now (tape2 .entry)) (now (tape3 .entry)) (now (pairs .entry)) r (now (tape0 .exit)) (now (tape1 .exit)) (now (tape2 .exit)) (now (tape3 .exit)) ⌝ }
 {
     let after = run_unit(Unit::fresh(), tape0, tape1, tape2, tape3, pairs);

@@ -2,5 +2,5 @@ pub mod Answers
 mod Octet
 mod Tested
 mod Made
-mod Whole
+pub mod Whole
 mod Level

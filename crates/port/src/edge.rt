@@ -10,7 +10,7 @@ use tape::Passed;
 use tape::Why;
 use tape::found_at;
 
-pub(crate) fn is_block(found: Found) -> bool
+pub fn is_block(found: Found) -> bool
     ensures { λ r. ⌜ r ≡ isBlock found ⌝ }
 {
     match found {

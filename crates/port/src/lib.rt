@@ -11,6 +11,7 @@ mod taken;
 
 pub use acts::act;
 pub use edge::check;
+pub use edge::is_block;
 pub use effect::command;
 pub use given::give;
 pub use given::stage;
@@ -20,6 +21,8 @@ pub use order::fault_of;
 pub use order::needs_of;
 pub use order::order_of;
 pub use report::octets;
+pub use taken::after_octet;
+pub use taken::next_octet;
 pub use taken::take;
 
 // The last place of a block's body, counted from 0.

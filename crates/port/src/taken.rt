@@ -2,7 +2,7 @@
 ghost use mathlib.Core.Path.{_≡_};
 ghost use mathlib.Core.List.{List};
 ghost use Prim.Native.Nat.{ℕ, _+_, _≤_, _<_};
-ghost use lib.ListN.{length};
+ghost use lib.ListN.{length, getD};
 ghost use Rattle.tape.specs.Record.{foundAt, blockSize};
 ghost use Rattle.rules.specs.Edge.{isBlock, checked};
 ghost use Rattle.rules.specs.Effect.{seat, acted};
@@ -83,7 +83,7 @@ fn octet_place(k: usize) -> usize
 }
 
 // After the sixth, Rest.
-fn after_octet(k: usize) -> Phase
+pub fn after_octet(k: usize) -> Phase
     ensures { λ r. ⌜ r ≡ afterOctet k ⌝ }
 {
     if k <= 1 {
@@ -93,13 +93,25 @@ fn after_octet(k: usize) -> Phase
     }
 }
 
-// The next octet of the report.
-fn take_octet(port: Port, drive: Drive, k: usize) -> Moved
-    ensures { λ r. ⌜ ((t : List ℕ) → acted r t ≡ octetTaken (seat port drive t) k) ⌝ }
+// The next octet of the report, where k are outstanding.
+pub fn next_octet(port: Port, k: usize) -> u8
+    ensures { λ r. ⌜ r ≡ getD (port .octets) (octetPlace k) 0 ⌝ }
 {
     let octets = port.octets;
     let i = octet_place(k);
-    hands(false, octets[i], port.at_phase(after_octet(k)), drive)
+    octets[i]
+}
+
+// It goes out, and the one behind it is next.
+fn take_octet(port: Port, drive: Drive, k: usize) -> Moved
+    ensures { λ r. ⌜ ((t : List ℕ) → acted r t ≡ octetTaken (seat port drive t) k) ⌝ }
+{
+    hands(
+        false,
+        next_octet(port, k),
+        port.at_phase(after_octet(k)),
+        drive,
+    )
 }
 
 // At Rest the first byte of a block, inside one its next byte, in Status the next octet.

@@ -20,6 +20,6 @@ pub enum What {
 pub enum Event {
     NoEvent,
     Reset,
-    Named(usize, What),
+    Named(u8, What),
     Own(Act),
 }

@@ -3,7 +3,7 @@ use crate::drive::Drive;
 
 pub enum Order {
     NoOrder,
-    Select(usize),
+    Select(u8),
     Bot,
     Erase,
     Initialize,

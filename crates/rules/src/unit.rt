@@ -13,10 +13,11 @@ pub enum Phase {
     Status(usize),
 }
 
+// Small enough that what a step hands back has 128 bytes: above that a copy is a call.
 pub struct Port {
     pub phase: Phase,
-    pub selected: usize,
     pub octets: [u8; OCTETS],
+    pub selected: u8,
     pub online: bool,
 }
 
@@ -77,7 +78,7 @@ impl Port {
     }
 
     // Another drive selected, at Rest.
-    pub fn at_drive(self, selected: usize) -> Port
+    pub fn at_drive(self, selected: u8) -> Port
         ensures { λ r. ⌜ r ≡ atDrive selected self ⌝ }
     {
         let mut p = self.at_phase(Phase::Rest);
@@ -111,7 +112,7 @@ impl Core {
     }
 
     // The record of a drive by its number.
-    pub fn drive(self, i: usize) -> Drive
+    pub fn drive(self, i: u8) -> Drive
         ensures { λ r. ⌜ r ≡ driveAt self i ⌝ }
     {
         if i == 0 {
@@ -127,7 +128,7 @@ impl Core {
     }
 
     // The port, and the record of one drive, put back.
-    pub fn put(self, port: Port, i: usize, drive: Drive) -> Core
+    pub fn put(self, port: Port, i: u8, drive: Drive) -> Core
         ensures { λ r. ⌜ r ≡ putDrive self port i drive ⌝ }
     {
         let mut c = self;

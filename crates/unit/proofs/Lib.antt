@@ -3,3 +3,5 @@ pub mod Demands
 pub mod Outcomes
 mod Bytes
 mod Settling
+mod Tested
+mod Inside

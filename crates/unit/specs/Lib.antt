@@ -1,4 +1,5 @@
 pub mod Meant
+pub mod Within
 pub mod Turn
 pub mod Runs
 pub mod Feed

@@ -16,14 +16,14 @@ use Rattle.rules.specs.declared.answer.Turn.{Turn}
 use Rattle.rules.specs.Unit.{Lent, putDrive, atPhase}
 use Rattle.rules.specs.Answer.{rowOf}
 use Rattle.rules.specs.Lines.{linesOf, linesDown}
-use Rattle.rules.specs.Refusal.{possible, inStepAt, slotFits, refusalIn, refusalBy}
+use Rattle.rules.specs.Refusal.{inStepAt, slotFits, refusalIn, refusalBy}
 use Rattle.rules.specs.Effect.{seat, Acted}
 use Rattle.rules.specs.Slot.{befallen, isOut, phaseAfter}
 use Rattle.rules.specs.Step.{staged, act, Stepped, stepped, settled}
 
--- The book's step where it is known whether the four tapes are short.
-abbrev pub settledBy : Core → Bool → Lent → Event → Stepped
-settledBy c near l e = settled c l e (refusalBy (possible c) near (refusalIn c e))
+-- The book's step where it is known whether the record is possible and whether the four tapes are short.
+abbrev pub settledBy : Core → Bool → Bool → Lent → Event → Stepped
+settledBy c sound near l e = settled c l e (refusalBy sound near (refusalIn c e))
 
 -- What the book hands back of an event refused, and of one taken.
 abbrev pub refusedTurn : Answer → Core → Turn
@@ -41,30 +41,30 @@ pub record Kept : Type 0 where
 abbrev pub kept : Turn → List ℕ → List ℕ → Kept
 kept r g t = record { turn = r; staging = g; tape = t }
 
-abbrev pub ownAnswer : Core → Bool → Drive → Act → Answer
-ownAnswer c near d a = refusalBy (possible c) near (pick (inStepAt (c .port .phase) d a) Taken OutOfStep)
+abbrev pub ownAnswer : Core → Bool → Bool → Drive → Act → Answer
+ownAnswer c sound near d a = refusalBy sound near (pick (inStepAt (c .port .phase) d a) Taken OutOfStep)
 
 abbrev pub landedOn : Core → List ℕ → Acted → Kept
 landedOn c g m =
     kept (takenTurn (m .moved .raised) (m .moved .given) (m .moved .byte) (putDrive c (m .moved .port) (c .port .selected) (m .moved .drive))) g (m .tape)
 
 -- An act of the host, with the record and the tape of the selected drive.
-unfoldable pub ownBy : Core → Bool → Drive → List ℕ → List ℕ → Act → Kept
-ownBy c near d g t a =
-    pick (rowOf (ownAnswer c near d a) .refuses)
-    (kept (refusedTurn (ownAnswer c near d a) c) g t)
+unfoldable pub ownBy : Core → Bool → Bool → Drive → List ℕ → List ℕ → Act → Kept
+ownBy c sound near d g t a =
+    pick (rowOf (ownAnswer c sound near d a) .refuses)
+    (kept (refusedTurn (ownAnswer c sound near d a) c) g t)
     (landedOn c (staged (c .port .phase) a g) (act (staged (c .port .phase) a g) (seat (c .port) d t) a))
 
 -- What befalls drive i, with its record.
-abbrev pub slotAnswer : Core → Bool → Drive → What → Answer
-slotAnswer c near d w = refusalBy (possible c) near (pick (slotFits (d .loaded) w) Taken WrongSlot)
+abbrev pub slotAnswer : Core → Bool → Bool → Drive → What → Answer
+slotAnswer c sound near d w = refusalBy sound near (pick (slotFits (d .loaded) w) Taken WrongSlot)
 
-unfoldable pub slotBy : Core → Bool → ℕ → Drive → What → Turn
-slotBy c near i d w =
-    pick (rowOf (slotAnswer c near d w) .refuses)
-    (refusedTurn (slotAnswer c near d w) c)
+unfoldable pub slotBy : Core → Bool → Bool → ℕ → Drive → What → Turn
+slotBy c sound near i d w =
+    pick (rowOf (slotAnswer c sound near d w) .refuses)
+    (refusedTurn (slotAnswer c sound near d w) c)
     (takenTurn (isOut w) false 0 (putDrive c (atPhase (phaseAfter w (eqb i (c .port .selected)) (c .port .phase)) (c .port)) i (befallen w d)))
 
 -- A turn that settles an event which changes nothing of what is lent.
-abbrev pub Settles : Core → Bool → Event → Turn → Type 0
-Settles c near e r = (l : Lent) → stepped r l ≡ settledBy c near l e
+abbrev pub Settles : Core → Bool → Bool → Event → Turn → Type 0
+Settles c sound near e r = (l : Lent) → stepped r l ≡ settledBy c sound near l e

@@ -12,13 +12,15 @@ const PLUG: u8 = 0x80;
 // The kind of a byte given by the host.
 pub(crate) const GIVEN: u8 = 0x02;
 
+// The kind of a byte taken by the host.
+pub(crate) const TAKEN: u8 = 0x03;
+
 // A body that names a drive: 0 to 3.
 fn named(body: u8, what: What) -> Event
     ensures { λ r. ⌜ r ≡ named body what ⌝ }
 {
-    let i = body as usize;
-    if i <= LAST_DRIVE {
-        Event::Named(i, what)
+    if body <= LAST_DRIVE {
+        Event::Named(body, what)
     } else {
         Event::NoEvent
     }
@@ -40,7 +42,7 @@ fn bare_event(kind: u8) -> Event
     ensures { λ r. ⌜ r ≡ bareEvent kind ⌝ }
 {
     match kind {
-        0x03 => Event::Own(Act::Take),
+        TAKEN => Event::Own(Act::Take),
         0x04 => Event::Own(Act::Online),
         0x05 => Event::Own(Act::Offline),
         0x06 => Event::Reset,

@@ -9,6 +9,7 @@ mod refuse;
 mod slot;
 mod steps;
 mod turn;
+mod within;
 
 pub use answer::number;
 pub use cable::lines;
@@ -18,4 +19,7 @@ pub use steps::step;
 pub use steps::step_core;
 
 // The drives are 0 to 3.
-pub(crate) const LAST_DRIVE: usize = 3;
+pub(crate) const LAST_DRIVE: u8 = 3;
+
+// The places in a block that is under way are 1 to 511.
+pub(crate) const LAST_PLACE: usize = tape::BODY - 1;

@@ -1,7 +1,9 @@
 // Answer 5: whether a unit record is possible.
 ghost use mathlib.Core.Path.{_≡_};
+ghost use Rattle.rules.specs.Unit.{driveAt};
 ghost use Rattle.rules.specs.Refusal.{modeFits, possibleDrive, possiblePhase, possible};
 use crate::LAST_DRIVE;
+use crate::LAST_PLACE;
 use rules::Core;
 use rules::Drive;
 use rules::LONGEST;
@@ -9,17 +11,17 @@ use rules::Mode;
 use rules::OCTETS;
 use rules::Phase;
 
-// The places in a block that is under way are 1 to 511.
-const LAST_PLACE: usize = tape::BODY - 1;
-
 // An empty slot is Idle and has no plug; a protected cartridge is never Writing.
 fn mode_fits(mode: Mode, loaded: bool, protected: bool) -> bool
     ensures { λ r. ⌜ r ≡ modeFits mode loaded protected ⌝ }
 {
+    if loaded {
+        return !(protected & mode.is_writing());
+    }
     match mode {
-        Mode::Idle => loaded | !protected,
-        Mode::Writing => loaded & !protected,
-        Mode::Reading => loaded,
+        Mode::Idle => !protected,
+        Mode::Writing => false,
+        Mode::Reading => false,
     }
 }
 
@@ -28,8 +30,10 @@ fn possible_drive(drive: Drive) -> bool
     ensures { λ r. ⌜ r ≡ possibleDrive drive ⌝ }
 {
     let mode = drive.mode;
-    let near = drive.head <= LONGEST;
-    near & mode_fits(mode, drive.loaded, drive.protected)
+    if drive.head <= LONGEST {
+        return mode_fits(mode, drive.loaded, drive.protected);
+    }
+    false
 }
 
 // A part block given needs the selected drive Writing, taken needs it Reading; octets outstanding are 1 to 6.
@@ -44,20 +48,42 @@ fn possible_phase(phase: Phase, mode: Mode) -> bool
     }
 }
 
+fn possible_at(phase: Phase, drive: Drive) -> bool
+    ensures { λ r. ⌜ r ≡ possiblePhase phase (drive .mode) ⌝ }
+{
+    let mode = drive.mode;
+    possible_phase(phase, mode)
+}
+
+// The phase beside the selected drive: each drive is called by its name, since a look by number copies the record.
+fn possible_place(core: Core) -> bool
+    ensures { λ r. ⌜ r ≡ possiblePhase (core .port .phase) (driveAt core (core .port .selected) .mode) ⌝ }
+{
+    let port = core.port;
+    let phase = port.phase;
+    let i = port.selected;
+    match i {
+        0 => possible_at(phase, core.drive0),
+        1 => possible_at(phase, core.drive1),
+        2 => possible_at(phase, core.drive2),
+        _ => possible_at(phase, core.drive3),
+    }
+}
+
 // The selected drive's number, the phase, and each of the four drives.
 pub fn possible(core: Core) -> bool
     ensures { λ r. ⌜ r ≡ possible core ⌝ }
 {
-    let port = core.port;
-    let selected = port.selected;
-    let phase = port.phase;
-    let drive = core.drive(selected);
-    let mode = drive.mode;
-    let number = selected <= LAST_DRIVE;
-    let place = possible_phase(phase, mode);
-    let drive0 = possible_drive(core.drive0);
-    let drive1 = possible_drive(core.drive1);
-    let drive2 = possible_drive(core.drive2);
-    let drive3 = possible_drive(core.drive3);
-    number & (place & (drive0 & (drive1 & (drive2 & drive3))))
+    let number = core.port.selected <= LAST_DRIVE;
+    let place = possible_place(core);
+    if number & place {
+        if possible_drive(core.drive0) {
+            if possible_drive(core.drive1) {
+                if possible_drive(core.drive2) {
+                    return possible_drive(core.drive3);
+                }
+            }
+        }
+    }
+    false
 }

@@ -4,7 +4,6 @@ ghost use Rattle.rules.specs.declared.event.Event.the-variants.{Named};
 ghost use Rattle.unit.specs.Meant.{slotBy, Settles};
 ghost use Rattle.rules.specs.Slot.{befallen, isOut, partDropped, phaseAfter};
 use crate::answer::refuses;
-use crate::record::possible;
 use crate::refuse::refusal_by;
 use crate::refuse::slot_fits;
 use crate::refuse::unless;
@@ -66,11 +65,11 @@ fn befall(drive: Drive, what: What) -> Drive
 }
 
 // Refused, or the drive's record changed, whichever is selected.
-fn befall_at(core: Core, near: bool, i: usize, drive: Drive, what: What) -> Turn
-    ensures { λ r. ⌜ r ≡ slotBy core near i drive what ⌝ }
+fn befall_at(core: Core, sound: bool, near: bool, i: u8, drive: Drive, what: What) -> Turn
+    ensures { λ r. ⌜ r ≡ slotBy core sound near i drive what ⌝ }
 {
     let fits = slot_fits(drive.loaded, what);
-    let answer = refusal_by(possible(core), near, unless(fits, Answer::WrongSlot));
+    let answer = refusal_by(sound, near, unless(fits, Answer::WrongSlot));
     if refuses(answer) {
         return refuse(answer, core);
     }
@@ -83,17 +82,17 @@ fn befall_at(core: Core, near: bool, i: usize, drive: Drive, what: What) -> Turn
 }
 
 // The drive by the number that the event names.
-pub(crate) fn slot(core: Core, near: bool, i: usize, what: What) -> Turn
-    ensures { λ r. ⌜ Settles core near (Named i what) r ⌝ }
+pub(crate) fn slot(core: Core, sound: bool, near: bool, i: u8, what: What) -> Turn
+    ensures { λ r. ⌜ Settles core sound near (Named i what) r ⌝ }
 {
     if i == 0 {
-        return befall_at(core, near, i, core.drive0, what);
+        return befall_at(core, sound, near, i, core.drive0, what);
     }
     if i == 1 {
-        return befall_at(core, near, i, core.drive1, what);
+        return befall_at(core, sound, near, i, core.drive1, what);
     }
     if i == 2 {
-        return befall_at(core, near, i, core.drive2, what);
+        return befall_at(core, sound, near, i, core.drive2, what);
     }
-    befall_at(core, near, i, core.drive3, what)
+    befall_at(core, sound, near, i, core.drive3, what)
 }

@@ -5,7 +5,7 @@ use crate::state::Unit;
 use crate::{Outcome, Tapes};
 
 /// Every hidden mutant by its name; its number is its place, counted from 1.
-const HIDDEN: [(&str, fn(&mut Scene)); 34] = [
+const HIDDEN: [(&str, fn(&mut Scene)); 33] = [
     ("a head of 16,777,216 is impossible", refused::head_refused),
     ("a head of 16,777,217 is possible", refused::head_passed),
     ("place 0 of a block is possible", refused::place_0),
@@ -13,7 +13,6 @@ const HIDDEN: [(&str, fn(&mut Scene)); 34] = [
     ("7 octets outstanding are possible", refused::octets_7),
     ("no octets outstanding are possible", refused::octets_0),
     ("selected 4 is drive 0", refused::selected_4),
-    ("of the selected number the low byte counts", refused::selected_low),
     ("of a place the low 32 bits count", refused::place_low),
     ("a part block given needs no Writing", refused::given_idle),
     ("a part block taken needs no Reading", refused::taken_idle),

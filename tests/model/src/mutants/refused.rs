@@ -72,10 +72,6 @@ pub fn selected_4(scene: &mut Scene) {
     taken_for(scene, |unit| unit.selected %= 4);
 }
 
-pub fn selected_low(scene: &mut Scene) {
-    taken_for(scene, |unit| unit.selected &= 0xFF);
-}
-
 pub fn place_low(scene: &mut Scene) {
     taken_for(scene, |unit| {
         unit.phase = match unit.phase {

@@ -17,6 +17,7 @@ pub const STAGING: usize = 117;
 pub enum Flaw {
     Length,
     Version,
+    Selected,
     Bool,
     Phase,
     NumberAtRest,
@@ -66,7 +67,7 @@ pub fn decode(bytes: &[u8]) -> Result<Unit, Flaw> {
     if from.take() != [VERSION] {
         return Err(Flaw::Version);
     }
-    let selected = from.number();
+    let selected = from.selected()?;
     let online = from.bool()?;
     let phase = from.phase()?;
     let octets = from.take();
@@ -89,6 +90,14 @@ impl Cursor<'_> {
 
     fn number(&mut self) -> u64 {
         u64::from_le_bytes(self.take())
+    }
+
+    /// One byte in the room of eight.
+    fn selected(&mut self) -> Result<u64, Flaw> {
+        match self.take() {
+            [low, 0, 0, 0, 0, 0, 0, 0] => Ok(low.into()),
+            _ => Err(Flaw::Selected),
+        }
     }
 
     fn bool(&mut self) -> Result<bool, Flaw> {

@@ -13,7 +13,8 @@ fn any_record_goes_there_and_back() {
         let unit = any_unit(&mut random, &tapes);
         let bytes = encode(&unit);
         assert_eq!(bytes.len(), 629);
-        assert_eq!(decode(&bytes), Ok(unit));
+        let wide = unit.selected > 255;
+        assert_eq!(decode(&bytes), if wide { Err(Flaw::Selected) } else { Ok(unit) });
     }
 }
 
@@ -102,6 +103,10 @@ fn each_flaw_is_found() {
         assert_eq!(decode(&bytes), Err(Flaw::Length));
     }
     (0..=255).for_each(|byte| assert_eq!(with(0, byte).is_ok(), byte == 1));
+    (0..=255).for_each(|byte| assert!(with(1, byte).is_ok()));
+    for at in 2..9 {
+        (1..=255).for_each(|byte| assert_eq!(with(at, byte), Err(Flaw::Selected)));
+    }
     assert_eq!(bools().len(), 41);
     for at in bools() {
         (2..=255).for_each(|byte| assert_eq!(with(at, byte), Err(Flaw::Bool), "{}", field(at)));

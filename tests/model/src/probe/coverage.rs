@@ -22,8 +22,15 @@ const CAN: [(&str, &[usize]); 12] = [
     ("other kinds", &[4, 5, 6]),
 ];
 
-const FLAWS: [Flaw; 6] =
-    [Flaw::Length, Flaw::Version, Flaw::Bool, Flaw::Phase, Flaw::NumberAtRest, Flaw::Mode];
+const FLAWS: [Flaw; 7] = [
+    Flaw::Length,
+    Flaw::Version,
+    Flaw::Selected,
+    Flaw::Bool,
+    Flaw::Phase,
+    Flaw::NumberAtRest,
+    Flaw::Mode,
+];
 
 /// How often each thing came.
 #[derive(Clone, Default)]

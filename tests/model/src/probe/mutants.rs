@@ -15,12 +15,13 @@ enum Misread {
 
 use Misread::{Both, In};
 
-const MISREAD: [(&str, Misread); 13] = [
+const MISREAD: [(&str, Misread); 14] = [
     ("errors and underruns exchanged", Both(|bytes| swap(bytes, 19, 21, 2))),
     ("loaded and protected exchanged", Both(|bytes| swap(bytes, 0, 1, 1))),
     ("latched FIL and ILL exchanged", Both(|bytes| swap(bytes, 15, 16, 1))),
     ("drives 1 and 2 exchanged", Both(|bytes| exchange(bytes, DRIVES + DRIVE, DRIVES + 2 * DRIVE))),
     ("heads with the high byte first", Both(|bytes| reverse_heads(bytes))),
+    ("of the selected number the low byte counts", In(|bytes| short_selected(bytes))),
     ("a bool above 1 is 1", In(|bytes| at_most(bytes, DRIVES + 3 * DRIVE + 18, 1))),
     ("ONLINE above 1 is 1", In(|bytes| at_most(bytes, 9, 1))),
     ("version 0 is a record", In(|bytes| raise(bytes, 0))),
@@ -174,6 +175,12 @@ fn exchange(bytes: &mut [u8], one: usize, other: usize) {
 
 fn reverse_heads(bytes: &mut [u8]) {
     heads(bytes, |head| head.reverse());
+}
+
+fn short_selected(bytes: &mut [u8]) {
+    if let Some(high) = bytes.get_mut(2..9) {
+        high.fill(0);
+    }
 }
 
 fn short_heads(bytes: &mut [u8]) {

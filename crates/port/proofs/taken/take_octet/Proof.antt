@@ -3,11 +3,8 @@ use borrow.Author.Needs.{needs}
 use Rattle.port.proofs.taken.take_octet.Statement.{statement}
 use Rattle.port.proofs.taken.take_octet.Tie as tie
 
-octet-place-requires : tie.Need-octet-place-requires
-octet-place-requires c κs = search needs
-
-array-read-hands : tie.Need-array-read-hands
-array-read-hands c = search needs
+next-octet-requires : tie.Need-next-octet-requires
+next-octet-requires c κs = search needs
 
 after-octet-requires : tie.Need-after-octet-requires
 after-octet-requires c κs = search needs
@@ -20,15 +17,9 @@ hands-requires c κs = search needs
 
 returns : tie.Need-returns
 unfolding octetTaken
-returns c = λ t. rw (c .hands .ensures, c .before .at-phase .ensures, c .before .before .after-octet .ensures, c .before .before .before .octet-place .ensures .0)
+returns c = λ t. rw (c .hands .ensures, c .before .at-phase .ensures, c .before .before .after-octet .ensures, c .before .before .before .next-octet .ensures)
 
 pub take-octet-spec : {M : Type 1} → statement M
 take-octet-spec =
     tie.close
-    (tie.spec
-    octet-place-requires
-    array-read-hands
-    after-octet-requires
-    at-phase-requires
-    hands-requires
-    returns)
+    (tie.spec next-octet-requires after-octet-requires at-phase-requires hands-requires returns)

@@ -1,6 +1,14 @@
+-- With a cartridge in, and without.
+use Rattle.unit.proofs.Tested.{loaded-fits}
 use borrow.Author.Needs.{needs}
 use Rattle.unit.proofs.record.mode_fits.Statement.{statement}
 use Rattle.unit.proofs.record.mode_fits.Tie as tie
+
+is-writing-requires : tie.Need-is-writing-requires
+is-writing-requires c κs = search needs
+
+returns : tie.Need-returns
+returns c = let a = c .before .before .args in rw (c .is-writing .ensures, c .before .if1 .taken) (loaded-fits (a .mode) (a .protected))
 
 enum-told : tie.Need-enum-told
 enum-told c = search needs
@@ -11,14 +19,24 @@ enum-told-2 c = search needs
 enum-told-3 : tie.Need-enum-told-3
 enum-told-3 c = search needs
 
-returns : tie.Need-returns
-returns c = rw (c .enum-told .given .1)
-
 returns-2 : tie.Need-returns-2
-returns-2 c = rw (c .enum-told2 .given .1)
+returns-2 c = search needs
 
 returns-3 : tie.Need-returns-3
 returns-3 c = search needs
 
+returns-4 : tie.Need-returns-4
+returns-4 c = search needs
+
 pub mode-fits-spec : {M : Type 1} → statement M
-mode-fits-spec = tie.close (tie.spec enum-told enum-told-2 enum-told-3 returns returns-2 returns-3)
+mode-fits-spec =
+    tie.close
+    (tie.spec
+    is-writing-requires
+    returns
+    enum-told
+    enum-told-2
+    enum-told-3
+    returns-2
+    returns-3
+    returns-4)

@@ -9,9 +9,6 @@ use Rattle.unit.proofs.slot.befall_at.Tie as tie
 slot-fits-requires : tie.Need-slot-fits-requires
 slot-fits-requires c κs = search needs
 
-possible-requires : tie.Need-possible-requires
-possible-requires c κs = search needs
-
 unless-requires : tie.Need-unless-requires
 unless-requires c κs = search needs
 
@@ -25,7 +22,7 @@ refuse-requires : tie.Need-refuse-requires
 refuse-requires c κs = search needs
 
 returns : tie.Need-returns
-returns c = let a = c .before .before .before .before .before .before .before .args in let answer = rw (c .before .before .before .before .before .possible .ensures, c .before .before .before .before .unless .ensures, c .before .before .before .before .before .before .slot-fits .ensures) at (c .before .before .before .refusal-by .ensures) in c .refuse .ensures ∙ slot-refused (a .core) (a .near) (a .i) (a .drive) (a .what) _ answer (told (c .before .before .refuses .ensures) (c .before .if1 .taken))
+returns c = let a = c .before .before .before .before .before .before .args in let answer = rw (c .before .before .before .before .unless .ensures, c .before .before .before .before .before .slot-fits .ensures) at (c .before .before .before .refusal-by .ensures) in c .refuse .ensures ∙ slot-refused (a .core) (a .sound) (a .near) (a .i) (a .drive) (a .what) _ answer (told (c .before .before .refuses .ensures) (c .before .if1 .taken))
 
 phase-after-requires : tie.Need-phase-after-requires
 phase-after-requires c κs = search needs
@@ -46,14 +43,13 @@ done-requires : tie.Need-done-requires
 done-requires c κs = search needs
 
 returns-2 : tie.Need-returns-2
-returns-2 c = let a = c .before .before .before .before .before .before .before .before .before .before .before .before .before .before .args in let answer = rw (c .before .before .before .before .before .before .before .before .before .before .before .before .possible .ensures, c .before .before .before .before .before .before .before .before .before .before .before .unless .ensures, c .before .before .before .before .before .before .before .before .before .before .before .before .before .slot-fits .ensures) at (c .before .before .before .before .before .before .before .before .before .before .refusal-by .ensures) in rw (c .done .ensures, c .before .put .ensures, c .before .before .is-out .ensures, c .before .before .before .befall .ensures, c .before .before .before .before .at-phase .ensures, c .before .before .before .before .before .phase-after .ensures) (slot-taken (a .core) (a .near) (a .i) (a .drive) (a .what) _ answer (told (c .before .before .before .before .before .before .before .before .before .refuses .ensures) (c .before .before .before .before .before .before .before .before .if1 .left)))
+returns-2 c = let a = c .before .before .before .before .before .before .before .before .before .before .before .before .before .args in let answer = rw (c .before .before .before .before .before .before .before .before .before .before .before .unless .ensures, c .before .before .before .before .before .before .before .before .before .before .before .before .slot-fits .ensures) at (c .before .before .before .before .before .before .before .before .before .before .refusal-by .ensures) in rw (c .done .ensures, c .before .put .ensures, c .before .before .is-out .ensures, c .before .before .before .befall .ensures, c .before .before .before .before .at-phase .ensures, c .before .before .before .before .before .phase-after .ensures) (slot-taken (a .core) (a .sound) (a .near) (a .i) (a .drive) (a .what) _ answer (told (c .before .before .before .before .before .before .before .before .before .refuses .ensures) (c .before .before .before .before .before .before .before .before .if1 .left)))
 
 pub befall-at-spec : {M : Type 1} → statement M
 befall-at-spec =
     tie.close
     (tie.spec
     slot-fits-requires
-    possible-requires
     unless-requires
     refusal-by-requires
     refuses-requires

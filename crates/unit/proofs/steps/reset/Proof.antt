@@ -11,9 +11,6 @@ use borrow.Author.Needs.{needs}
 use Rattle.unit.proofs.steps.reset.Statement.{statement}
 use Rattle.unit.proofs.steps.reset.Tie as tie
 
-possible-requires : tie.Need-possible-requires
-possible-requires c κs = search needs
-
 refusal-by-requires : tie.Need-refusal-by-requires
 refusal-by-requires c κs = search needs
 
@@ -24,7 +21,7 @@ refuse-requires : tie.Need-refuse-requires
 refuse-requires c κs = search needs
 
 returns : tie.Need-returns
-returns c = let a = c .before .before .before .before .before .args in let answer = rw (c .before .before .before .before .possible .ensures) at (c .before .before .before .refusal-by .ensures) in λ l. ap (λ (x : Turn). stepped x l) (c .refuse .ensures) ∙ reset-refused (a .core) (a .near) _ answer (told (c .before .before .refuses .ensures) (c .before .if1 .taken)) l
+returns c = let a = c .before .before .before .before .args in let answer = c .before .before .before .refusal-by .ensures in λ l. ap (λ (x : Turn). stepped x l) (c .refuse .ensures) ∙ reset-refused (a .core) (a .sound) (a .near) _ answer (told (c .before .before .refuses .ensures) (c .before .if1 .taken)) l
 
 reset-requires : tie.Need-reset-requires
 reset-requires c κs = search needs
@@ -33,13 +30,12 @@ done-requires : tie.Need-done-requires
 done-requires c κs = search needs
 
 returns-2 : tie.Need-returns-2
-returns-2 c = let a = c .before .before .before .before .before .before .args in let answer = rw (c .before .before .before .before .before .possible .ensures) at (c .before .before .before .before .refusal-by .ensures) in λ l. ap (λ (x : Turn). stepped x l) (c .done .ensures ∙ ap (λ (x : Core). takenTurn true false 0 x) (c .before .reset .ensures)) ∙ reset-taken (a .core) (a .near) _ answer (told (c .before .before .before .refuses .ensures) (c .before .before .if1 .left)) l
+returns-2 c = let a = c .before .before .before .before .before .args in let answer = c .before .before .before .before .refusal-by .ensures in λ l. ap (λ (x : Turn). stepped x l) (c .done .ensures ∙ ap (λ (x : Core). takenTurn true false 0 x) (c .before .reset .ensures)) ∙ reset-taken (a .core) (a .sound) (a .near) _ answer (told (c .before .before .before .refuses .ensures) (c .before .before .if1 .left)) l
 
 pub reset-spec : {M : Type 1} → statement M
 reset-spec =
     tie.close
     (tie.spec
-    possible-requires
     refusal-by-requires
     refuses-requires
     refuse-requires

@@ -1,26 +1,97 @@
--- Each sort of event as the book settles it.
-use Rattle.unit.proofs.Settling.{steps-by, none-refused}
-use Rattle.rules.specs.Step.{stepped}
-use Rattle.rules.specs.Refusal.{short}
-use Rattle.rules.specs.Unit.{lent}
-use Rattle.rules.specs.declared.answer.Turn.{Turn}
-use Rattle.rules.specs.declared.event.Event.the-variants.{NoEvent, Reset}
+-- A byte or an octet that moves the phase alone, then each sort of event as the book settles it.
 use mathlib.Core.Path.{ap, _∙_}
+use Rattle.rules.specs.declared.event.Event.the-variants.{NoEvent, Reset}
+use Rattle.rules.specs.declared.answer.Turn.{Turn}
+use Rattle.rules.specs.Unit.{lent, oneOf, putAt, putLast}
+use Rattle.rules.specs.Refusal.{short}
+use Rattle.rules.specs.Step.{stepped}
+use Rattle.tape.specs.Choice.{pick}
+use Rattle.unit.proofs.Inside.{given-steps, taken-steps, octet-steps}
+use Rattle.unit.proofs.Settling.{steps-by, none-refused, own-at, own-last}
 use borrow.Author.Needs.{needs}
 use Rattle.unit.proofs.steps.step_core.Statement.{statement}
 use Rattle.unit.proofs.steps.step_core.Tie as tie
 
-event-of-requires : tie.Need-event-of-requires
-event-of-requires c κs = search needs
-
 short-requires : tie.Need-short-requires
 short-requires c κs = search needs
 
-enum-told : tie.Need-enum-told
-enum-told c = search needs
-
 possible-requires : tie.Need-possible-requires
 possible-requires c κs = search needs
+
+given-place-requires : tie.Need-given-place-requires
+given-place-requires c κs = search needs
+
+writes-at-requires : tie.Need-writes-at-requires
+writes-at-requires c κs = search needs
+
+body-requires : tie.Need-body-requires
+body-requires c κs = search needs
+
+stage-requires : tie.Need-stage-requires
+stage-requires c κs = search needs
+
+add-t33 : tie.Need-add-t33
+add-t33 c = search needs
+
+moved-on-requires : tie.Need-moved-on-requires
+moved-on-requires c κs = search needs
+
+returns : tie.Need-returns
+unfolding short
+returns c = let a = c .before .before .before .before .before .before .before .before .before .before .before .before .before .before .before .before .args in let l = lent (a .staging .now) (a .tape0 .now) (a .tape1 .now) (a .tape2 .now) (a .tape3 .now) in given-steps (a .core) l (a .event .now) _ _ _ _ _ _ (c .before .before .before .before .before .before .before .given-place .ensures) (c .before .before .before .before .before .before .if1 .taken) (c .before .before .before .before .before .before .before .before .before .possible .ensures) (c .before .before .before .before .before .before .before .before .before .before .short .ensures) (c .before .before .before .before .before .writes-at .ensures) (c .before .before .before .before .if2 .taken) (c .moved-on .ensures) (rw (c .before .before .body .ensures) at (c .before .stage .ensures))
+
+taken-place-requires : tie.Need-taken-place-requires
+taken-place-requires c κs = search needs
+
+next-byte-requires : tie.Need-next-byte-requires
+next-byte-requires c κs = search needs
+
+add-t45 : tie.Need-add-t45
+add-t45 c = search needs
+
+moved-on-requires-2 : tie.Need-moved-on-requires-2
+moved-on-requires-2 c κs = search needs
+
+same-length : tie.Need-same-length
+same-length c = search needs
+
+same-length-2 : tie.Need-same-length-2
+same-length-2 c = search needs
+
+same-length-3 : tie.Need-same-length-3
+same-length-3 c = search needs
+
+same-length-4 : tie.Need-same-length-4
+same-length-4 c = search needs
+
+returns-2 : tie.Need-returns-2
+unfolding short
+returns-2 c = let a = c .before .before .before .before .before .before .before .before .before .before .before .before .before .before .before .before .before .before .before .before .args in let l = lent (a .staging .now) (a .tape0 .now) (a .tape1 .now) (a .tape2 .now) (a .tape3 .now) in taken-steps (a .core) l (a .event .now) _ _ _ _ _ (c .before .before .before .before .before .before .before .before .before .taken-place .ensures) (c .before .before .before .before .before .before .before .before .if3 .taken) (c .before .before .before .before .before .before .before .before .before .before .before .before .before .possible .ensures) (c .before .before .before .before .before .before .before .before .before .before .before .before .before .before .short .ensures) (c .before .before .before .next-byte .ensures) (c .before .if4 .taken) (c .moved-on2 .ensures)
+
+octets-left-requires : tie.Need-octets-left-requires
+octets-left-requires c κs = search needs
+
+after-octet-requires : tie.Need-after-octet-requires
+after-octet-requires c κs = search needs
+
+moved-to-requires : tie.Need-moved-to-requires
+moved-to-requires c κs = search needs
+
+next-octet-requires : tie.Need-next-octet-requires
+next-octet-requires c κs = search needs
+
+done-requires : tie.Need-done-requires
+done-requires c κs = search needs
+
+returns-3 : tie.Need-returns-3
+unfolding short
+returns-3 c = let a = c .before .before .before .before .before .before .before .before .before .before .before .before .before .before .before .before .before .before .before .args in let l = lent (a .staging .now) (a .tape0 .now) (a .tape1 .now) (a .tape2 .now) (a .tape3 .now) in octet-steps (a .core) l (a .event .now) _ _ _ _ _ _ (c .before .before .before .before .before .before .octets-left .ensures) (c .before .before .before .before .before .if5 .taken) (c .before .before .before .before .before .before .before .before .before .before .before .before .possible .ensures) (c .before .before .before .before .before .before .before .before .before .before .before .before .before .short .ensures) (c .before .before .before .before .if6 .taken) (c .done .ensures) (c .before .next-octet .ensures) (rw (c .before .before .before .after-octet .ensures) at (c .before .before .moved-to .ensures))
+
+event-of-requires : tie.Need-event-of-requires
+event-of-requires c κs = search needs
+
+enum-told : tie.Need-enum-told
+enum-told c = search needs
 
 refusal-by-requires : tie.Need-refusal-by-requires
 refusal-by-requires c κs = search needs
@@ -43,45 +114,88 @@ slot-requires c κs = search needs
 enum-known-e-2 : tie.Need-enum-known-e-2
 enum-known-e-2 c = search needs
 
-own-requires : tie.Need-own-requires
-own-requires c κs = search needs
+act-on-requires : tie.Need-act-on-requires
+act-on-requires c κs = search needs
 
-returns : tie.Need-returns
-unfolding short
-returns c = let a = c .before .before .before .before .before .before .before .before .before .before .before .before .args in let l = lent (a .staging .now) (a .tape0 .now) (a .tape1 .now) (a .tape2 .now) (a .tape3 .now) in steps-by (a .core) l (a .event .now) _ l _ NoEvent _ (c .before .before .before .before .before .before .event-of .ensures) (c .before .before .before .enum-told .given .1) (c .before .before .before .before .before .short .ensures) (ap (λ (x : Turn). stepped x l) (c .refuse .ensures) ∙ none-refused (a .core) _ _ (rw (c .before .before .possible .ensures) at (c .before .refusal-by .ensures)) l)
-
-returns-2 : tie.Need-returns-2
-unfolding short
-returns-2 c = let a = c .before .before .before .before .before .before .before .before .before .before .args in let l = lent (a .staging .now) (a .tape0 .now) (a .tape1 .now) (a .tape2 .now) (a .tape3 .now) in steps-by (a .core) l (a .event .now) _ l _ Reset _ (c .before .before .before .before .event-of .ensures) (c .before .enum-told2 .given .1) (c .before .before .before .short .ensures) (c .reset .ensures l)
-
-returns-3 : tie.Need-returns-3
-unfolding short
-returns-3 c = let a = c .before .before .before .before .before .before .before .before .before .before .before .args in let l = lent (a .staging .now) (a .tape0 .now) (a .tape1 .now) (a .tape2 .now) (a .tape3 .now) in steps-by (a .core) l (a .event .now) _ l _ _ _ (c .before .before .before .before .before .event-of .ensures) (c .before .before .e .given .1) (c .before .before .before .before .short .ensures) (c .slot .ensures l)
-
-same-length : tie.Need-same-length
-same-length c = search needs
-
-same-length-2 : tie.Need-same-length-2
-same-length-2 c = search needs
-
-same-length-3 : tie.Need-same-length-3
-same-length-3 c = search needs
-
-same-length-4 : tie.Need-same-length-4
-same-length-4 c = search needs
+same-length-5 : tie.Need-same-length-5
+same-length-5 c = search needs
 
 returns-4 : tie.Need-returns-4
+unfolding short oneOf putAt putLast pick
+returns-4 c = let a = c .before .before .before .before .before .before .before .before .before .before .before .before .before .before .before .before .before .before .before .before .before .before .before .before .before .args in let l = lent (a .staging .now) (a .tape0 .now) (a .tape1 .now) (a .tape2 .now) (a .tape3 .now) in steps-by (a .core) l (a .event .now) _ _ _ _ _ _ (c .before .before .before .before .before .before .before .before .before .before .event-of .ensures) (c .before .before .before .before .before .before .before .before .e2 .given .1) (c .before .before .before .before .before .before .before .before .before .before .before .before .before .before .before .before .before .before .possible .ensures) (c .before .before .before .before .before .before .before .before .before .before .before .before .before .before .before .before .before .before .before .short .ensures) (own-at (a .core) _ _ l _ _ _ _ 0 (c .before .before .before .before .before .if7 .taken) (c .before .before .act-on .ensures))
+
+act-on-requires-2 : tie.Need-act-on-requires-2
+act-on-requires-2 c κs = search needs
+
+same-length-6 : tie.Need-same-length-6
+same-length-6 c = search needs
+
+returns-5 : tie.Need-returns-5
+unfolding short oneOf putAt putLast pick
+returns-5 c = let a = c .before .before .before .before .before .before .before .before .before .before .before .before .before .before .before .before .before .before .before .before .before .before .before .before .before .before .before .args in let l = lent (a .staging .now) (a .tape0 .now) (a .tape1 .now) (a .tape2 .now) (a .tape3 .now) in steps-by (a .core) l (a .event .now) _ _ _ _ _ _ (c .before .before .before .before .before .before .before .before .before .before .before .before .event-of .ensures) (c .before .before .before .before .before .before .before .before .before .before .e2 .given .1) (c .before .before .before .before .before .before .before .before .before .before .before .before .before .before .before .before .before .before .before .before .possible .ensures) (c .before .before .before .before .before .before .before .before .before .before .before .before .before .before .before .before .before .before .before .before .before .short .ensures) (own-at (a .core) _ _ l _ _ _ _ 1 (c .before .before .before .before .before .if8 .taken) (c .before .before .act-on2 .ensures))
+
+act-on-requires-3 : tie.Need-act-on-requires-3
+act-on-requires-3 c κs = search needs
+
+same-length-7 : tie.Need-same-length-7
+same-length-7 c = search needs
+
+returns-6 : tie.Need-returns-6
+unfolding short oneOf putAt putLast pick
+returns-6 c = let a = c .before .before .before .before .before .before .before .before .before .before .before .before .before .before .before .before .before .before .before .before .before .before .before .before .before .before .before .before .before .args in let l = lent (a .staging .now) (a .tape0 .now) (a .tape1 .now) (a .tape2 .now) (a .tape3 .now) in steps-by (a .core) l (a .event .now) _ _ _ _ _ _ (c .before .before .before .before .before .before .before .before .before .before .before .before .before .before .event-of .ensures) (c .before .before .before .before .before .before .before .before .before .before .before .before .e2 .given .1) (c .before .before .before .before .before .before .before .before .before .before .before .before .before .before .before .before .before .before .before .before .before .before .possible .ensures) (c .before .before .before .before .before .before .before .before .before .before .before .before .before .before .before .before .before .before .before .before .before .before .before .short .ensures) (own-at (a .core) _ _ l _ _ _ _ 2 (c .before .before .before .before .before .if9 .taken) (c .before .before .act-on3 .ensures))
+
+act-on-requires-4 : tie.Need-act-on-requires-4
+act-on-requires-4 c κs = search needs
+
+returns-7 : tie.Need-returns-7
 unfolding short
-returns-4 c = let a = c .before .before .before .before .before .before .before .before .before .before .before .before .before .before .before .before .before .before .before .before .before .before .before .before .args in let l = lent (a .staging .now) (a .tape0 .now) (a .tape1 .now) (a .tape2 .now) (a .tape3 .now) in steps-by (a .core) l (a .event .now) _ _ _ _ _ (c .before .before .before .before .before .before .before .before .before .before .before .before .before .before .before .before .before .before .event-of .ensures) (c .before .before .before .before .before .before .before .before .before .before .before .before .before .before .before .e2 .given .1) (c .before .before .before .before .before .before .before .before .before .before .before .before .before .before .before .before .before .short .ensures) (c .before .before .before .before .before .before .before .before .own .ensures)
+returns-7 c = let a = c .before .before .before .before .before .before .before .before .before .before .before .before .before .before .before .before .before .before .before .args in let l = lent (a .staging .now) (a .tape0 .now) (a .tape1 .now) (a .tape2 .now) (a .tape3 .now) in steps-by (a .core) l (a .event .now) _ l _ NoEvent _ _ (c .before .before .before .before .event-of .ensures) (c .before .before .enum-told .given .1) (c .before .before .before .before .before .before .before .before .before .before .before .before .possible .ensures) (c .before .before .before .before .before .before .before .before .before .before .before .before .before .short .ensures) (ap (λ (x : Turn). stepped x l) (c .refuse .ensures) ∙ none-refused (a .core) _ _ _ (c .before .refusal-by .ensures) l)
+
+returns-8 : tie.Need-returns-8
+unfolding short
+returns-8 c = let a = c .before .before .before .before .before .before .before .before .before .before .before .before .before .before .before .before .before .before .args in let l = lent (a .staging .now) (a .tape0 .now) (a .tape1 .now) (a .tape2 .now) (a .tape3 .now) in steps-by (a .core) l (a .event .now) _ l _ Reset _ _ (c .before .before .before .event-of .ensures) (c .before .enum-told2 .given .1) (c .before .before .before .before .before .before .before .before .before .before .before .possible .ensures) (c .before .before .before .before .before .before .before .before .before .before .before .before .short .ensures) (c .reset .ensures l)
+
+returns-9 : tie.Need-returns-9
+unfolding short
+returns-9 c = let a = c .before .before .before .before .before .before .before .before .before .before .before .before .before .before .before .before .before .before .before .args in let l = lent (a .staging .now) (a .tape0 .now) (a .tape1 .now) (a .tape2 .now) (a .tape3 .now) in steps-by (a .core) l (a .event .now) _ l _ _ _ _ (c .before .before .before .before .event-of .ensures) (c .before .before .e .given .1) (c .before .before .before .before .before .before .before .before .before .before .before .before .possible .ensures) (c .before .before .before .before .before .before .before .before .before .before .before .before .before .short .ensures) (c .slot .ensures l)
+
+same-length-8 : tie.Need-same-length-8
+same-length-8 c = search needs
+
+returns-10 : tie.Need-returns-10
+unfolding short
+returns-10 c = let a = c .before .before .before .before .before .before .before .before .before .before .before .before .before .before .before .before .before .before .before .before .before .before .before .before .before .before .before .before .before .args in let l = lent (a .staging .now) (a .tape0 .now) (a .tape1 .now) (a .tape2 .now) (a .tape3 .now) in steps-by (a .core) l (a .event .now) _ _ _ _ _ _ (c .before .before .before .before .before .before .before .before .before .before .before .before .before .before .event-of .ensures) (c .before .before .before .before .before .before .before .before .before .before .before .before .e2 .given .1) (c .before .before .before .before .before .before .before .before .before .before .before .before .before .before .before .before .before .before .before .before .before .before .possible .ensures) (c .before .before .before .before .before .before .before .before .before .before .before .before .before .before .before .before .before .before .before .before .before .before .before .short .ensures) (own-last (a .core) _ _ l _ _ _ _ (c .before .before .before .before .before .before .before .before .before .if7 .left) (c .before .before .before .before .before .before .before .if8 .left) (c .before .before .before .before .before .if9 .left) (c .before .before .act-on4 .ensures))
 
 pub step-core-spec : {M : Type 1} → statement M
 step-core-spec =
     tie.close
     (tie.spec
-    event-of-requires
     short-requires
-    enum-told
     possible-requires
+    given-place-requires
+    writes-at-requires
+    body-requires
+    stage-requires
+    add-t33
+    moved-on-requires
+    returns
+    taken-place-requires
+    next-byte-requires
+    add-t45
+    moved-on-requires-2
+    same-length
+    same-length-2
+    same-length-3
+    same-length-4
+    returns-2
+    octets-left-requires
+    after-octet-requires
+    moved-to-requires
+    next-octet-requires
+    done-requires
+    returns-3
+    event-of-requires
+    enum-told
     refusal-by-requires
     refuse-requires
     enum-told-2
@@ -89,12 +203,18 @@ step-core-spec =
     enum-known-e
     slot-requires
     enum-known-e-2
-    own-requires
-    returns
-    returns-2
-    returns-3
-    same-length
-    same-length-2
-    same-length-3
-    same-length-4
-    returns-4)
+    act-on-requires
+    same-length-5
+    returns-4
+    act-on-requires-2
+    same-length-6
+    returns-5
+    act-on-requires-3
+    same-length-7
+    returns-6
+    act-on-requires-4
+    returns-7
+    returns-8
+    returns-9
+    same-length-8
+    returns-10)

@@ -25,6 +25,9 @@ fn all() -> &'static [Spoil] {
         let mut all: Vec<Spoil> =
             lengths.filter(|&length| length != codec::SIZE).map(Spoil::Length).collect();
         all.extend((0..=255).filter(|&byte| byte != 1).map(|byte| Spoil::Byte(0, byte)));
+        for at in 2..9 {
+            all.extend((1..=255).map(|byte| Spoil::Byte(at, byte)));
+        }
         for at in codec::bools() {
             all.extend((2..=255).map(|byte| Spoil::Byte(at, byte)));
         }
@@ -91,7 +94,8 @@ pub fn skeleton(random: &mut Random, _: &mut Index, frames: &mut Vec<Frame>) {
     codec::modes().into_iter().for_each(|at| record[at] %= 3);
     record[10] &= 3;
     let number = if record[10] == 3 { random.among(0..8) } else { random.among(0..514) };
-    lower(random, &mut record[1..9], 4);
+    lower(random, &mut record[1..2], 4);
+    record[2..9].fill(0);
     lower(random, &mut record[11..19], number as u64 + 1);
     if record[10] == 0 {
         record[11..19].fill(0);
@@ -111,7 +115,7 @@ pub fn skeleton(random: &mut Random, _: &mut Index, frames: &mut Vec<Frame>) {
 fn lower(random: &mut Random, bytes: &mut [u8], bound: u64) {
     if random.chance(970) {
         let below = random.number() % bound;
-        bytes.copy_from_slice(&below.to_le_bytes());
+        bytes.copy_from_slice(&below.to_le_bytes()[..bytes.len()]);
     }
 }
 

@@ -26,8 +26,8 @@ const HUGE: [u64; 7] =
 fn all() -> &'static [Fault] {
     static ALL: OnceLock<Vec<Fault>> = OnceLock::new();
     ALL.get_or_init(|| {
-        let selected = [4, 5, 7, 8, 255, u64::MAX].into_iter().chain(HUGE);
-        let mut all: Vec<Fault> = selected.map(Fault::Selected).collect();
+        let selected = [4, 5, 7, 8, 16, 32, 64, 128, 252, 255];
+        let mut all: Vec<Fault> = selected.map(Fault::Selected).to_vec();
         for n in [0, 512, 513, 767, u64::MAX].into_iter().chain(HUGE.map(|huge| huge + 511)) {
             all.push(Fault::Phase(Phase::Taking(n), Mode::Writing));
             all.push(Fault::Phase(Phase::Giving(n), Mode::Reading));

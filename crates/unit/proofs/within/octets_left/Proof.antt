@@ -1,0 +1,29 @@
+-- Only event 03 asks for an octet.
+use Rattle.unit.specs.Within.{octetsLeft}
+use Rattle.tape.specs.Choice.{pick}
+use Rattle.rules.specs.Tests.{tests}
+use borrow.Author.Needs.{needs}
+use Rattle.unit.proofs.within.octets_left.Statement.{statement}
+use Rattle.unit.proofs.within.octets_left.Tie as tie
+
+shared-slice-read-if2 : tie.Need-shared-slice-read-if2
+shared-slice-read-if2 c = search needs
+
+outstanding-requires : tie.Need-outstanding-requires
+outstanding-requires c κs = search needs
+
+returns : tie.Need-returns
+unfolding pick octetsLeft
+returns c = rw (c .outstanding .ensures, c .before .before .before .if1 .taken, c .before .if2 .taken)
+
+returns-2 : tie.Need-returns-2
+unfolding pick octetsLeft
+returns-2 c = search tests
+
+returns-3 : tie.Need-returns-3
+unfolding pick octetsLeft
+returns-3 c = search tests
+
+pub octets-left-spec : {M : Type 1} → statement M
+octets-left-spec =
+    tie.close (tie.spec shared-slice-read-if2 outstanding-requires returns returns-2 returns-3)

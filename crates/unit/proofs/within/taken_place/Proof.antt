@@ -1,0 +1,29 @@
+-- Only event 03 has a place here.
+use Rattle.unit.specs.Within.{takenPlace}
+use Rattle.tape.specs.Choice.{pick}
+use Rattle.rules.specs.Tests.{tests}
+use borrow.Author.Needs.{needs}
+use Rattle.unit.proofs.within.taken_place.Statement.{statement}
+use Rattle.unit.proofs.within.taken_place.Tie as tie
+
+shared-slice-read-if2 : tie.Need-shared-slice-read-if2
+shared-slice-read-if2 c = search needs
+
+being-read-requires : tie.Need-being-read-requires
+being-read-requires c κs = search needs
+
+returns : tie.Need-returns
+unfolding pick takenPlace
+returns c = rw (c .being-read .ensures, c .before .before .before .if1 .taken, c .before .if2 .taken)
+
+returns-2 : tie.Need-returns-2
+unfolding pick takenPlace
+returns-2 c = search tests
+
+returns-3 : tie.Need-returns-3
+unfolding pick takenPlace
+returns-3 c = search tests
+
+pub taken-place-spec : {M : Type 1} → statement M
+taken-place-spec =
+    tie.close (tie.spec shared-slice-read-if2 being-read-requires returns returns-2 returns-3)

@@ -1,0 +1,194 @@
+// A byte within a block: it moves the place of the next one, and nothing else of the record. So it is looked for first.
+ghost use mathlib.Core.Path.{_≡_};
+ghost use Prim.Native.Nat.{_+_, _≤_, _<_};
+ghost use lib.ListN.{length, getD};
+ghost use Rattle.tape.specs.Record.{blockSize};
+ghost use Rattle.rules.specs.Drive.{writes};
+ghost use Rattle.rules.specs.Unit.{oneOf, driveAt, lastPlace};
+ghost use Rattle.unit.specs.Within.{underWay, beingRead, outstanding, givenPlace, takenPlace, octetsLeft, bodyOf, nextOf, movedTo, movedOn};
+use crate::LAST_PLACE;
+use crate::event::GIVEN;
+use crate::event::TAKEN;
+use port::is_block;
+use rules::Answer;
+use rules::Core;
+use rules::Drive;
+use rules::Lines;
+use rules::Phase;
+use rules::Turn;
+use tape::found_at;
+
+// A byte of the tape, where there is one.
+pub(crate) struct Next {
+    pub there: bool,
+    pub byte: u8,
+}
+
+// How many bytes were given of the block that is under way; the last place where there is none.
+fn under_way(phase: Phase) -> usize
+    ensures { λ r. ⌜ r ≡ underWay phase ⌝ }
+{
+    match phase {
+        Phase::Rest => LAST_PLACE,
+        Phase::Taking(n) => n,
+        Phase::Giving(_) => LAST_PLACE,
+        Phase::Status(_) => LAST_PLACE,
+    }
+}
+
+// How many bytes were taken of the block that is being read; the last place where there is none.
+fn being_read(phase: Phase) -> usize
+    ensures { λ r. ⌜ r ≡ beingRead phase ⌝ }
+{
+    match phase {
+        Phase::Rest => LAST_PLACE,
+        Phase::Taking(_) => LAST_PLACE,
+        Phase::Giving(n) => n,
+        Phase::Status(_) => LAST_PLACE,
+    }
+}
+
+// How many octets are outstanding; none outside a report.
+fn outstanding(phase: Phase) -> usize
+    ensures { λ r. ⌜ r ≡ outstanding phase ⌝ }
+{
+    match phase {
+        Phase::Rest => 0,
+        Phase::Taking(_) => 0,
+        Phase::Giving(_) => 0,
+        Phase::Status(k) => k,
+    }
+}
+
+// The place of a byte given; the last one for every other event.
+pub(crate) fn given_place(phase: Phase, event: &[u8]) -> usize
+    ensures { λ r. ⌜ r ≡ givenPlace phase (now (event .entry)) ⌝ }
+{
+    if event.len() == 2 {
+        if event[0] == GIVEN {
+            return under_way(phase);
+        }
+    }
+    LAST_PLACE
+}
+
+// The place of a byte taken; the last one for every other event.
+pub(crate) fn taken_place(phase: Phase, event: &[u8]) -> usize
+    ensures { λ r. ⌜ r ≡ takenPlace phase (now (event .entry)) ⌝ }
+{
+    if event.len() == 1 {
+        if event[0] == TAKEN {
+            return being_read(phase);
+        }
+    }
+    LAST_PLACE
+}
+
+// How many octets are outstanding where a byte is taken; none for every other event.
+pub(crate) fn octets_left(phase: Phase, event: &[u8]) -> usize
+    ensures { λ r. ⌜ r ≡ octetsLeft phase (now (event .entry)) ⌝ }
+{
+    if event.len() == 1 {
+        if event[0] == TAKEN {
+            return outstanding(phase);
+        }
+    }
+    0
+}
+
+// The byte that the host gives.
+pub(crate) fn body(event: &[u8]) -> u8
+    ensures { λ r. ⌜ r ≡ bodyOf (now (event .entry)) ⌝ }
+{
+    if event.len() == 2 { event[1] } else { 0 }
+}
+
+// Whether the drive of a number takes data.
+pub(crate) fn writes_at(core: Core, i: u8) -> bool
+    ensures { λ r. ⌜ r ≡ writes (driveAt core i) ⌝ }
+{
+    match i {
+        0 => core.drive0.writes(),
+        1 => core.drive1.writes(),
+        2 => core.drive2.writes(),
+        _ => core.drive3.writes(),
+    }
+}
+
+// Byte n of a block that ends inside the tape.
+fn byte_of(tape: &[u8], head: usize, n: usize) -> u8
+    requires { ⌜ (head + blockSize ≤ length (now tape)) × (n < lastPlace) ⌝ }
+    ensures { λ r. ⌜ r ≡ getD (now (tape .entry)) (head + 1 + n) 0 ⌝ }
+{
+    tape[head + 1 + n]
+}
+
+// Byte n of the block at the head, if there is a whole one and the drive gives data.
+fn next_of(drive: Drive, tape: &[u8], n: usize) -> Next
+    requires { ⌜ n < lastPlace ⌝ }
+    ensures { λ r. ⌜ r ≡ nextOf drive (now (tape .entry)) n ⌝ }
+{
+    let head = drive.head;
+    if drive.reads() {
+        if is_block(found_at(tape, head)) {
+            return Next {
+                there: true,
+                byte: byte_of(tape, head, n),
+            };
+        }
+    }
+    Next {
+        there: false,
+        byte: 0,
+    }
+}
+
+// The same of the selected drive.
+pub(crate) fn next_byte(
+    core: Core,
+    tape0: &[u8],
+    tape1: &[u8],
+    tape2: &[u8],
+    tape3: &[u8],
+    n: usize,
+) -> Next
+    requires { ⌜ n < lastPlace ⌝ }
+    ensures { λ r. ⌜ r ≡ nextOf (driveAt core (core .port .selected)) (oneOf (core .port .selected) (now (tape0 .entry)) (now (tape1 .entry)) (now (tape2 .entry)) (now (tape3 .entry))) n ⌝ }
+{
+    let i = core.port.selected;
+    match i {
+        0 => next_of(core.drive0, tape0, n),
+        1 => next_of(core.drive1, tape1, n),
+        2 => next_of(core.drive2, tape2, n),
+        _ => next_of(core.drive3, tape3, n),
+    }
+}
+
+// Another phase, and nothing else.
+pub(crate) fn moved_to(core: Core, phase: Phase) -> Core
+    ensures { λ r. ⌜ r ≡ movedTo core phase ⌝ }
+{
+    let p = core.port;
+    let port = p.at_phase(phase);
+    let mut after = core;
+    after.port = port;
+    after
+}
+
+// The phase moved on, no EXCEPTION, and DIRECTION up where the host takes bytes.
+pub(crate) fn moved_on(core: Core, phase: Phase, given: bool, byte: u8, direction: bool) -> Turn
+    ensures { λ r. ⌜ r ≡ movedOn core phase given byte direction ⌝ }
+{
+    let after = moved_to(core, phase);
+    Turn {
+        answer: Answer::Taken,
+        given,
+        byte,
+        lines: Lines {
+            ready: false,
+            exception: false,
+            direction,
+        },
+        core: after,
+    }
+}
