@@ -34,7 +34,7 @@ use Rattle.rules.specs.Step.{staged, act, stepped, done, landed, Steps}
 use Rattle.rules.proofs.Bools.{both}
 use Rattle.unit.specs.declared.within.Next.{Next}
 use Rattle.unit.specs.Meant.{settledBy, takenTurn}
-use Rattle.unit.specs.Within.{underWay, beingRead, outstanding, givenPlace, takenPlace, octetsLeft, bodyOf, nextOf, movedTo, movedOn}
+use Rattle.unit.specs.Within.{underWay, beingRead, outstanding, onlyAt, givenPlace, takenPlace, octetsLeft, bodyOf, nextOf, movedTo, movedOn}
 use Rattle.unit.proofs.Settling.{tape-back, steps-by}
 
 -- putting back the record that is there changes nothing
@@ -65,72 +65,72 @@ lines-known : (c : Core) (ph : Phase) (given : Bool) (b : ℕ) (direction : Bool
 unfolding pick linesOf
 lines-known c ph given b direction e = ap (λ (x : Lines). record { answer = Taken; given = given; byte = b; lines = x; core = movedTo c ph }) (sym e)
 
--- what a place before the last one tells of the event and of the phase
-given-there : (ph : Phase) (l : List ℕ) → givenPlace ph l < lastPlace → (ph ≡ Taking (givenPlace ph l)) × (eventOf l ≡ Own (Give (bodyOf l)))
-unfolding pick givenPlace bodyOf eventOf bodiedEvent
-given-there ph l low = go (eqb (length l) 2) (eqb (getD l 0 0) 2) ph refl refl low
+-- what was looked for and found tells the length and the kind
+only-there : (size kind found none : ℕ) (l : List ℕ) → (onlyAt size kind found none l ≡ none → ⊥)
+    → (length l ≡ size) × ((getD l 0 0 ≡ kind) × (onlyAt size kind found none l ≡ found))
+unfolding pick onlyAt
+only-there size kind found none l some = go (eqb (length l) size) (eqb (getD l 0 0) kind) refl refl
   where
-    go : (two given : Bool) (ph : Phase) → eqb (length l) 2 ≡ two → eqb (getD l 0 0) 2 ≡ given
-        → pick two (pick given (underWay ph) lastPlace) lastPlace < lastPlace
-        → (ph ≡ Taking (pick two (pick given (underWay ph) lastPlace) lastPlace)) × (eventOf l ≡ Own (Give (bodyOf l)))
-    go true true (Taking n) p q low = (refl, rw (eqb-true (length l) 2 p, eqb-true (getD l 0 0) 2 q) refl)
-    go true true Rest p q low = absurd (omega (arith, low))
-    go true true (Giving n) p q low = absurd (omega (arith, low))
-    go true true (Status k) p q low = absurd (omega (arith, low))
-    go true false ph p q low = absurd (omega (arith, low))
-    go false given ph p q low = absurd (omega (arith, low))
+    go : (long first : Bool) → eqb (length l) size ≡ long → eqb (getD l 0 0) kind ≡ first
+        → (length l ≡ size) × ((getD l 0 0 ≡ kind) × (onlyAt size kind found none l ≡ found))
+    go true true p q = (eqb-true (length l) size p, (eqb-true (getD l 0 0) kind q, rw (p, q) refl))
+    go true false p q = absurd (some (rw (p, q) refl))
+    go false first p q = absurd (some (rw (p) refl))
 
-taken-there : (ph : Phase) (l : List ℕ) → takenPlace ph l < lastPlace → (ph ≡ Giving (takenPlace ph l)) × (eventOf l ≡ Own Take)
-unfolding pick takenPlace eventOf bareEvent
-taken-there ph l low = go (eqb (length l) 1) (eqb (getD l 0 0) 3) ph refl refl low
+-- so the event and the phase are known
+given-there : (ph : Phase) (l : List ℕ) (n : ℕ) → n ≡ givenPlace ph l → n < lastPlace → (ph ≡ Taking n) × (eventOf l ≡ Own (Give (bodyOf l)))
+unfolding pick bodyOf eventOf bodiedEvent
+given-there ph l n is low =
+    let there = only-there 2 2 (underWay ph) lastPlace l (λ p. omega (arith, low, is, p)) in
+    (go ph (is ∙ there .1 .1), rw (there .0, there .1 .0) refl)
   where
-    go : (one taken : Bool) (ph : Phase) → eqb (length l) 1 ≡ one → eqb (getD l 0 0) 3 ≡ taken
-        → pick one (pick taken (beingRead ph) lastPlace) lastPlace < lastPlace
-        → (ph ≡ Giving (pick one (pick taken (beingRead ph) lastPlace) lastPlace)) × (eventOf l ≡ Own Take)
-    go true true (Giving n) p q low = (refl, rw (eqb-true (length l) 1 p, eqb-true (getD l 0 0) 3 q) refl)
-    go true true Rest p q low = absurd (omega (arith, low))
-    go true true (Taking n) p q low = absurd (omega (arith, low))
-    go true true (Status k) p q low = absurd (omega (arith, low))
-    go true false ph p q low = absurd (omega (arith, low))
-    go false taken ph p q low = absurd (omega (arith, low))
+    go : (ph : Phase) → n ≡ underWay ph → ph ≡ Taking n
+    go (Taking m) e = ap Taking (sym e)
+    go Rest e = absurd (omega (arith, low, e))
+    go (Giving m) e = absurd (omega (arith, low, e))
+    go (Status k) e = absurd (omega (arith, low, e))
 
-octet-there : (ph : Phase) (l : List ℕ) → 0 < octetsLeft ph l → (ph ≡ Status (octetsLeft ph l)) × (eventOf l ≡ Own Take)
-unfolding pick octetsLeft eventOf bareEvent
-octet-there ph l some = go (eqb (length l) 1) (eqb (getD l 0 0) 3) ph refl refl some
+take-there : (l : List ℕ) → length l ≡ 1 → getD l 0 0 ≡ 3 → eventOf l ≡ Own Take
+unfolding pick eventOf bareEvent
+take-there l p q = rw (p, q) refl
+
+taken-there : (ph : Phase) (l : List ℕ) (n : ℕ) → n ≡ takenPlace ph l → n < lastPlace → (ph ≡ Giving n) × (eventOf l ≡ Own Take)
+taken-there ph l n is low =
+    let there = only-there 1 3 (beingRead ph) lastPlace l (λ p. omega (arith, low, is, p)) in
+    (go ph (is ∙ there .1 .1), take-there l (there .0) (there .1 .0))
   where
-    go : (one taken : Bool) (ph : Phase) → eqb (length l) 1 ≡ one → eqb (getD l 0 0) 3 ≡ taken
-        → 0 < pick one (pick taken (outstanding ph) 0) 0
-        → (ph ≡ Status (pick one (pick taken (outstanding ph) 0) 0)) × (eventOf l ≡ Own Take)
-    go true true (Status k) p q some = (refl, rw (eqb-true (length l) 1 p, eqb-true (getD l 0 0) 3 q) refl)
-    go true true Rest p q some = absurd (omega (arith, some))
-    go true true (Taking n) p q some = absurd (omega (arith, some))
-    go true true (Giving n) p q some = absurd (omega (arith, some))
-    go true false ph p q some = absurd (omega (arith, some))
-    go false taken ph p q some = absurd (omega (arith, some))
+    go : (ph : Phase) → n ≡ beingRead ph → ph ≡ Giving n
+    go (Giving m) e = ap Giving (sym e)
+    go Rest e = absurd (omega (arith, low, e))
+    go (Taking m) e = absurd (omega (arith, low, e))
+    go (Status k) e = absurd (omega (arith, low, e))
 
--- the lines of a drive that takes data within a block, and of one that gives data
+octet-there : (ph : Phase) (l : List ℕ) (k : ℕ) → k ≡ octetsLeft ph l → 0 < k → (ph ≡ Status k) × (eventOf l ≡ Own Take)
+octet-there ph l k is some =
+    let there = only-there 1 3 (outstanding ph) 0 l (λ p. omega (arith, some, is, p)) in
+    (go ph (is ∙ there .1 .1), take-there l (there .0) (there .1 .0))
+  where
+    go : (ph : Phase) → k ≡ outstanding ph → ph ≡ Status k
+    go (Status j) e = ap Status (sym e)
+    go Rest e = absurd (omega (arith, some, e))
+    go (Taking n) e = absurd (omega (arith, some, e))
+    go (Giving n) e = absurd (omega (arith, some, e))
+
+-- the lines within a block, by mode and EXCEPTION: of a drive that takes data, and of one that gives data
 abbrev lines : Bool → Bool → Bool → Lines
 lines r e d = record { ready = r; exception = e; direction = d }
 
-writing-lines : (d : Drive) (n : ℕ) → writes d ≡ true → linesAt (Taking n) d ≡ record { ready = false; exception = false; direction = false }
-writing-lines d n so = go (d .mode) (d .exception) so
-  where
-    go : (m : Mode) (up : Bool) → (isWriting m && not up) ≡ true
-        → lines (not up && false) up (false || (isReading m && not up)) ≡ lines false false false
-    go Writing false so = refl
-    go Writing true so = absurd (false≢true so)
-    go Idle up so = absurd (false≢true so)
-    go Reading up so = absurd (false≢true so)
+writing-lines : (m : Mode) (up : Bool) → (isWriting m && not up) ≡ true → lines (not up && false) up (false || (isReading m && not up)) ≡ lines false false false
+writing-lines Writing false so = refl
+writing-lines Writing true so = absurd (false≢true so)
+writing-lines Idle up so = absurd (false≢true so)
+writing-lines Reading up so = absurd (false≢true so)
 
-reading-lines : (d : Drive) (n : ℕ) → reads d ≡ true → linesAt (Giving n) d ≡ record { ready = false; exception = false; direction = true }
-reading-lines d n so = go (d .mode) (d .exception) so
-  where
-    go : (m : Mode) (up : Bool) → (isReading m && not up) ≡ true
-        → lines (not up && false) up (false || (isReading m && not up)) ≡ lines false false true
-    go Reading false so = refl
-    go Reading true so = absurd (false≢true so)
-    go Idle up so = absurd (false≢true so)
-    go Writing up so = absurd (false≢true so)
+reading-lines : (m : Mode) (up : Bool) → (isReading m && not up) ≡ true → lines (not up && false) up (false || (isReading m && not up)) ≡ lines false false true
+reading-lines Reading false so = refl
+reading-lines Reading true so = absurd (false≢true so)
+reading-lines Idle up so = absurd (false≢true so)
+reading-lines Writing up so = absurd (false≢true so)
 
 -- a byte that is there: the drive gives data, a whole block stands at its head, and the byte is of it
 next-there : (d : Drive) (t : List ℕ) (n : ℕ) → nextOf d t n .there ≡ true
@@ -152,12 +152,12 @@ pub given-steps : (c : Core) (l : Lent) (event : List ℕ) (r : Turn) (g : List 
     → Steps c l event r (putStaging l g)
 unfolding pick
 given-steps c l event r g n sound near takes is low ok fits drive so turn put =
-    let there = given-there (c .port .phase) event (rw (is) at low) in
+    let there = given-there (c .port .phase) event n is low in
     let free = both (sound && near) takes so in
     let calm = both sound near (free .0) in
     let writing : writes (driveAt c (c .port .selected)) ≡ true = sym drive ∙ free .1 in
-    let phase : c .port .phase ≡ Taking n = there .0 ∙ ap Taking (sym is) in
-    let shown = lines-known c (Taking (n + 1)) false 0 false (writing-lines (driveAt c (c .port .selected)) (n + 1) writing) in
+    let phase = there .0 in
+    let shown = lines-known c (Taking (n + 1)) false 0 false (writing-lines (driveAt c (c .port .selected) .mode) (driveAt c (c .port .selected) .exception) writing) in
     let moves = phase-moves c l (Give (bodyOf event)) (Taking (n + 1)) false 0 (rw (phase) writing) (rw (phase, lt-ltb n lastPlace low) refl) in
     steps-by c l event r (putStaging l g) _ (Own (Give (bodyOf event))) true true refl (there .1) (sym (calm .0) ∙ ok) (sym (calm .1) ∙ fits)
     (ap₂ (λ (x : Turn) (y : List ℕ). stepped x (putStaging l y)) (turn ∙ shown) put ∙ moves)
@@ -171,13 +171,13 @@ unfolding pick handed
 taken-steps c l event r n sound near next is low ok fits byte so turn =
     let d = driveAt c (c .port .selected) in
     let t = tapeAt l (c .port .selected) in
-    let there = taken-there (c .port .phase) event (rw (is) at low) in
+    let there = taken-there (c .port .phase) event n is low in
     let free = both (sound && near) (next .there) so in
     let calm = both sound near (free .0) in
     let found = next-there d t n (ap (λ (x : Next). x .there) (sym byte) ∙ free .1) in
-    let phase : c .port .phase ≡ Giving n = there .0 ∙ ap Giving (sym is) in
+    let phase = there .0 in
     let here : next .byte ≡ getD t (d .head + 1 + n) 0 = ap (λ (x : Next). x .byte) byte ∙ found .1 .1 in
-    let shown = lines-known c (Giving (n + 1)) true (next .byte) true (reading-lines d (n + 1) (found .0)) in
+    let shown = lines-known c (Giving (n + 1)) true (next .byte) true (reading-lines (d .mode) (d .exception) (found .0)) in
     let moves = phase-moves c l Take (Giving (n + 1)) true (next .byte) (rw (phase) refl) (rw (phase, found .1 .0, lt-ltb n lastPlace low, here) refl) in
     steps-by c l event r l _ (Own Take) true true refl (there .1) (sym (calm .0) ∙ ok) (sym (calm .1) ∙ fits) (ap (λ (x : Turn). stepped x l) (turn ∙ shown) ∙ moves)
 
@@ -187,9 +187,9 @@ pub octet-steps : (c : Core) (l : Lent) (event : List ℕ) (r : Turn) (k b : ℕ
     → r ≡ takenTurn false true b after → b ≡ getD (c .port .octets) (octetPlace k) 0 → after ≡ movedTo c (afterOctet k) → Steps c l event r l
 unfolding pick octetTaken
 octet-steps c l event r k b after sound near is some ok fits so turn byte moved =
-    let there = octet-there (c .port .phase) event (rw (is) at some) in
+    let there = octet-there (c .port .phase) event k is some in
     let calm = both sound near so in
-    let phase : c .port .phase ≡ Status k = there .0 ∙ ap Status (sym is) in
+    let phase = there .0 in
     let moves = phase-moves c l Take (afterOctet k) true b (rw (phase) refl) (rw (phase, byte) refl) in
     steps-by c l event r l _ (Own Take) true true refl (there .1) (sym (calm .0) ∙ ok) (sym (calm .1) ∙ fits)
     (ap (λ (x : Turn). stepped x l) (turn ∙ ap (takenTurn false true b) moved) ∙ moves)

@@ -37,16 +37,19 @@ outstanding (Taking n) = 0
 outstanding (Giving n) = 0
 outstanding (Status k) = k
 
--- The place of a byte given, event 02, and of a byte taken, event 03; the last place for every other event.
-unfoldable pub givenPlace : Phase → List ℕ → ℕ
-givenPlace ph l = pick (eqb (length l) 2) (pick (eqb (getD l 0 0) 2) (underWay ph) lastPlace) lastPlace
+-- What is looked for where the bytes are so many and the first is this kind; `none` for every other event.
+unfoldable pub onlyAt : ℕ → ℕ → ℕ → ℕ → List ℕ → ℕ
+onlyAt size kind found none l = pick (eqb (length l) size) (pick (eqb (getD l 0 0) kind) found none) none
 
-unfoldable pub takenPlace : Phase → List ℕ → ℕ
-takenPlace ph l = pick (eqb (length l) 1) (pick (eqb (getD l 0 0) 3) (beingRead ph) lastPlace) lastPlace
+-- The place of a byte given, event 02; the place of a byte taken, event 03, or the octets outstanding then.
+abbrev pub givenPlace : Phase → List ℕ → ℕ
+givenPlace ph l = onlyAt 2 2 (underWay ph) lastPlace l
 
--- How many octets are outstanding where a byte is taken; none for every other event.
-unfoldable pub octetsLeft : Phase → List ℕ → ℕ
-octetsLeft ph l = pick (eqb (length l) 1) (pick (eqb (getD l 0 0) 3) (outstanding ph) 0) 0
+abbrev pub takenPlace : Phase → List ℕ → ℕ
+takenPlace ph l = onlyAt 1 3 (beingRead ph) lastPlace l
+
+abbrev pub octetsLeft : Phase → List ℕ → ℕ
+octetsLeft ph l = onlyAt 1 3 (outstanding ph) 0 l
 
 -- The byte that comes with an event of two bytes.
 unfoldable pub bodyOf : List ℕ → ℕ

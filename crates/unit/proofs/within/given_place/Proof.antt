@@ -1,5 +1,5 @@
 -- Only event 02 has a place here.
-use Rattle.unit.specs.Within.{givenPlace}
+use Rattle.unit.specs.Within.{onlyAt}
 use Rattle.tape.specs.Choice.{pick}
 use Rattle.rules.specs.Tests.{tests}
 use borrow.Author.Needs.{needs}
@@ -13,15 +13,15 @@ under-way-requires : tie.Need-under-way-requires
 under-way-requires c κs = search needs
 
 returns : tie.Need-returns
-unfolding pick givenPlace
+unfolding pick onlyAt
 returns c = rw (c .under-way .ensures, c .before .before .before .if1 .taken, c .before .if2 .taken)
 
 returns-2 : tie.Need-returns-2
-unfolding pick givenPlace
+unfolding pick onlyAt
 returns-2 c = search tests
 
 returns-3 : tie.Need-returns-3
-unfolding pick givenPlace
+unfolding pick onlyAt
 returns-3 c = search tests
 
 pub given-place-spec : {M : Type 1} → statement M
