@@ -66,13 +66,13 @@ unfolding pick linesOf
 lines-known c ph given b direction e = ap (λ (x : Lines). record { answer = Taken; given = given; byte = b; lines = x; core = movedTo c ph }) (sym e)
 
 -- what was looked for and found tells the length and the kind
-only-there : (size kind found none : ℕ) (l : List ℕ) → (onlyAt size kind found none l ≡ none → ⊥)
-    → (length l ≡ size) × ((getD l 0 0 ≡ kind) × (onlyAt size kind found none l ≡ found))
+only-there : (size kind found other : ℕ) (l : List ℕ) → (onlyAt size kind found other l ≡ other → ⊥)
+    → (length l ≡ size) × ((getD l 0 0 ≡ kind) × (onlyAt size kind found other l ≡ found))
 unfolding pick onlyAt
-only-there size kind found none l some = go (eqb (length l) size) (eqb (getD l 0 0) kind) refl refl
+only-there size kind found other l some = go (eqb (length l) size) (eqb (getD l 0 0) kind) refl refl
   where
     go : (long first : Bool) → eqb (length l) size ≡ long → eqb (getD l 0 0) kind ≡ first
-        → (length l ≡ size) × ((getD l 0 0 ≡ kind) × (onlyAt size kind found none l ≡ found))
+        → (length l ≡ size) × ((getD l 0 0 ≡ kind) × (onlyAt size kind found other l ≡ found))
     go true true p q = (eqb-true (length l) size p, (eqb-true (getD l 0 0) kind q, rw (p, q) refl))
     go true false p q = absurd (some (rw (p, q) refl))
     go false first p q = absurd (some (rw (p) refl))

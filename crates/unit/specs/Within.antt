@@ -37,9 +37,9 @@ outstanding (Taking n) = 0
 outstanding (Giving n) = 0
 outstanding (Status k) = k
 
--- What is looked for where the bytes are so many and the first is this kind; `none` for every other event.
+-- What is found where the bytes are so many and the first is this kind, and what for every other event.
 unfoldable pub onlyAt : ℕ → ℕ → ℕ → ℕ → List ℕ → ℕ
-onlyAt size kind found none l = pick (eqb (length l) size) (pick (eqb (getD l 0 0) kind) found none) none
+onlyAt size kind found other l = pick (eqb (length l) size) (pick (eqb (getD l 0 0) kind) found other) other
 
 -- The place of a byte given, event 02; the place of a byte taken, event 03, or the octets outstanding then.
 abbrev pub givenPlace : Phase → List ℕ → ℕ
@@ -55,13 +55,13 @@ octetsLeft ph l = onlyAt 1 3 (outstanding ph) 0 l
 unfoldable pub bodyOf : List ℕ → ℕ
 bodyOf l = pick (eqb (length l) 2) (getD l 1 0) 0
 
--- Byte n of the whole block at the head of a drive that gives data.
-abbrev pub none : Next
-none = record { there = false; byte = 0 }
+-- Byte n of the whole block at the head of a drive that gives data, if there is one.
+abbrev pub noByte : Next
+noByte = record { there = false; byte = 0 }
 
 unfoldable pub nextOf : Drive → List ℕ → ℕ → Next
 nextOf d t n =
-    pick (reads d) (pick (isBlock (foundAt t (d .head))) (record { there = true; byte = getD t (d .head + 1 + n) 0 }) none) none
+    pick (reads d) (pick (isBlock (foundAt t (d .head))) (record { there = true; byte = getD t (d .head + 1 + n) 0 }) noByte) noByte
 
 -- Another phase, and nothing else.
 abbrev pub movedTo : Core → Phase → Core

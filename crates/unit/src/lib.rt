@@ -4,6 +4,7 @@ mod cable;
 mod event;
 mod feed;
 mod own;
+mod place;
 mod record;
 mod refuse;
 mod slot;

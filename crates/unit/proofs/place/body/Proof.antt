@@ -3,8 +3,8 @@ use Rattle.unit.specs.Within.{bodyOf}
 use Rattle.tape.specs.Choice.{pick}
 use Rattle.rules.specs.Tests.{tests}
 use borrow.Author.Needs.{needs}
-use Rattle.unit.proofs.within.body.Statement.{statement}
-use Rattle.unit.proofs.within.body.Tie as tie
+use Rattle.unit.proofs.place.body.Statement.{statement}
+use Rattle.unit.proofs.place.body.Tie as tie
 
 shared-slice-read-result : tie.Need-shared-slice-read-result
 shared-slice-read-result c = search needs
