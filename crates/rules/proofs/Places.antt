@@ -4,7 +4,7 @@ use mathlib.Core.Path.{_≡_, refl}
 use mathlib.Core.Bool.{Bool, true, false}
 use native.Mathlib.Omega.{arith}
 use lib.Dec.{leb, eqb}
-use borrow.Author.Tests.{eqb-true, eqb-false, le-leb}
+use borrow.Author.Tests.{eqb-true, eqb-false, ne-eqb, le-leb}
 use Rattle.tape.specs.Choice.{pick}
 use Rattle.rules.specs.Unit.{oneOf, putAt, putLast}
 
@@ -32,6 +32,16 @@ put-same {A} i x a b c d = go (eqb i 0) (eqb i 1) (eqb i 2) refl refl refl
     go false true r ep eq er = refl
     go false false true ep eq er = refl
     go false false false ep eq er = rw (le-leb 3 i (omega (arith, eqb-false i 0 ep, eqb-false i 1 eq, eqb-false i 2 er)))
+
+-- What is there, put back, changes nothing.
+pub put-back : {A B : Type 0} (f : A → A → A → A → B) (i : ℕ) (a b c d : A)
+    → f (putAt 0 i (oneOf i a b c d) a) (putAt 1 i (oneOf i a b c d) b) (putAt 2 i (oneOf i a b c d) c) (putLast i (oneOf i a b c d) d) ≡ f a b c d
+unfolding pick oneOf putAt putLast
+put-back f zero a b c d = refl
+put-back f (suc zero) a b c d = refl
+put-back f (suc (suc zero)) a b c d = refl
+put-back f (suc (suc (suc n))) a b c d =
+    let i = suc (suc (suc n)) in rw (ne-eqb i 0 (λ p. omega (arith, p)), ne-eqb i 1 (λ p. omega (arith, p)), ne-eqb i 2 (λ p. omega (arith, p)), le-leb 3 i (omega arith)) refl
 
 -- The other three are as they were.
 pub put-other : {A : Type 0} {i j : ℕ} (x a b c d : A) → Four i → Four j → (i ≡ j → ⊥)

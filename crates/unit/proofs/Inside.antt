@@ -1,12 +1,12 @@
 -- A byte within a block or an octet of a report, found by its place, is the book's step.
-use Prim.Native.Nat.{ℕ, zero, suc, _+_, _<_}
+use Prim.Native.Nat.{ℕ, _+_, _<_}
 use mathlib.Core.Path.{_≡_, refl, sym, ap, ap₂, _∙_}
 use mathlib.Core.Bool.{Bool, true, false, not, _&&_, _||_, false≢true}
 use mathlib.Core.List.{List}
 use native.Mathlib.Omega.{arith}
 use lib.ListN.{length, getD}
 use lib.Dec.{eqb}
-use borrow.Author.Tests.{le-leb, lt-ltb, ne-eqb, eqb-true}
+use borrow.Author.Tests.{lt-ltb, eqb-true}
 use Rattle.tape.specs.Choice.{pick}
 use Rattle.tape.specs.Record.{foundAt}
 use Rattle.rules.specs.declared.drive.Drive.{Drive}
@@ -14,7 +14,6 @@ use Rattle.rules.specs.declared.drive.Mode.{Mode}
 use Rattle.rules.specs.declared.drive.Mode.the-variants.{Idle, Writing, Reading}
 use Rattle.rules.specs.declared.unit.Phase.{Phase}
 use Rattle.rules.specs.declared.unit.Phase.the-variants.{Rest, Taking, Giving, Status}
-use Rattle.rules.specs.declared.unit.Port.{Port}
 use Rattle.rules.specs.declared.unit.Core.{Core}
 use Rattle.rules.specs.declared.event.Act.{Act}
 use Rattle.rules.specs.declared.event.Act.the-variants.{Give, Take}
@@ -23,7 +22,7 @@ use Rattle.rules.specs.declared.answer.Answer.the-variants.{Taken}
 use Rattle.rules.specs.declared.answer.Lines.{Lines}
 use Rattle.rules.specs.declared.answer.Turn.{Turn}
 use Rattle.rules.specs.Drive.{isWriting, isReading, writes, reads}
-use Rattle.rules.specs.Unit.{Lent, oneOf, putAt, putLast, driveAt, putDrive, tapeAt, putStaging, atPhase, lastPlace}
+use Rattle.rules.specs.Unit.{Lent, driveAt, putDrive, tapeAt, putStaging, atPhase, lastPlace}
 use Rattle.rules.specs.Lines.{linesAt, linesOf}
 use Rattle.rules.specs.Refusal.{possible, short, inStepAt}
 use Rattle.rules.specs.Edge.{isBlock}
@@ -32,6 +31,7 @@ use Rattle.rules.specs.Bytes.{handed, octetPlace, afterOctet, octetTaken}
 use Rattle.rules.specs.Event.{bareEvent, bodiedEvent, eventOf}
 use Rattle.rules.specs.Step.{staged, act, stepped, done, landed, Steps}
 use Rattle.rules.proofs.Bools.{both}
+use Rattle.rules.proofs.Places.{put-back}
 use Rattle.unit.specs.declared.within.Next.{Next}
 use Rattle.unit.specs.Meant.{settledBy, takenTurn}
 use Rattle.unit.specs.Within.{underWay, beingRead, outstanding, onlyAt, givenPlace, takenPlace, octetsLeft, bodyOf, nextOf, movedTo, movedOn}
@@ -39,12 +39,8 @@ use Rattle.unit.proofs.Settling.{tape-back, steps-by}
 
 -- putting back the record that is there changes nothing
 drive-back : (c : Core) (ph : Phase) (i : ℕ) → putDrive c (atPhase ph (c .port)) i (driveAt c i) ≡ movedTo c ph
-unfolding oneOf putAt putLast pick
-drive-back c ph zero = refl
-drive-back c ph (suc zero) = refl
-drive-back c ph (suc (suc zero)) = refl
-drive-back c ph (suc (suc (suc n))) =
-    let i = suc (suc (suc n)) in rw (ne-eqb i 0 (λ p. omega (arith, p)), ne-eqb i 1 (λ p. omega (arith, p)), ne-eqb i 2 (λ p. omega (arith, p)), le-leb 3 i (omega arith)) refl
+drive-back c ph i =
+    put-back (λ (w x y z : Drive). record { port = atPhase ph (c .port); drive0 = w; drive1 = x; drive2 = y; drive3 = z }) i (c .drive0) (c .drive1) (c .drive2) (c .drive3)
 
 -- an act that moves the phase alone
 phase-moves : (c : Core) (l : Lent) (a : Act) (ph : Phase) (given : Bool) (b : ℕ)

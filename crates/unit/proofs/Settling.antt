@@ -1,5 +1,5 @@
 -- What a drive's record and tape at hand come to in the book's step.
-use Prim.Native.Nat.{ℕ, zero, suc}
+use Prim.Native.Nat.{ℕ}
 use mathlib.Core.Path.{_≡_, refl, sym, ap, ap₂, subst, _∙_}
 use mathlib.Core.Bool.{Bool, true, false}
 use mathlib.Core.List.{List}
@@ -24,6 +24,7 @@ use Rattle.rules.specs.Effect.{seat, Acted, acted}
 use Rattle.rules.specs.Slot.{befallen, isOut, phaseAfter}
 use Rattle.rules.specs.Event.{eventOf}
 use Rattle.rules.specs.Step.{staged, act, stepped, effectOf, stepBy, stepOf, Steps}
+use Rattle.rules.proofs.Places.{put-back}
 use Rattle.unit.specs.Meant.{settledBy, refusedTurn, takenTurn, Kept, kept, ownAnswer, landedOn, ownBy, slotAnswer, slotBy, Settles}
 
 picked : {A : Type 0} (b : Bool) (x y : A) → b ≡ true → x ≡ pick b x y
@@ -48,14 +49,9 @@ pub own-taken : (c : Core) (sound near : Bool) (d : Drive) (g t : List ℕ) (a :
 unfolding ownBy
 own-taken c sound near d g t a b e so = passed _ _ _ (refusing e so)
 
--- putting back what is there changes nothing
+-- putting back the tape that is there changes nothing
 pub tape-back : (l : Lent) (i : ℕ) → putTape (putStaging l (l .staging)) i (tapeAt l i) ≡ l
-unfolding oneOf putAt putLast pick
-tape-back l zero = refl
-tape-back l (suc zero) = refl
-tape-back l (suc (suc zero)) = refl
-tape-back l (suc (suc (suc n))) =
-    let i = suc (suc (suc n)) in rw (ne-eqb i 0 (λ p. omega (arith, p)), ne-eqb i 1 (λ p. omega (arith, p)), ne-eqb i 2 (λ p. omega (arith, p)), le-leb 3 i (omega arith)) refl
+tape-back l i = put-back (lent (l .staging)) i (l .tape0) (l .tape1) (l .tape2) (l .tape3)
 
 own-there : (c : Core) (sound near : Bool) (l : Lent) (a : Act) (k : Kept)
     → k ≡ ownBy c sound near (driveAt c (c .port .selected)) (l .staging) (tapeAt l (c .port .selected)) a

@@ -48,6 +48,7 @@ fn possible_phase(phase: Phase, mode: Mode) -> bool
     }
 }
 
+// The same beside a drive's whole record.
 fn possible_at(phase: Phase, drive: Drive) -> bool
     ensures { λ r. ⌜ r ≡ possiblePhase phase (drive .mode) ⌝ }
 {
