@@ -15,8 +15,8 @@ extern "C" {
 #endif
 
 /* The bytes of a record, and its first byte. */
-#define GLENOULTY_SIZE 629
-#define GLENOULTY_VERSION 1
+#define GLENOULTY_SIZE 658
+#define GLENOULTY_VERSION 2
 
 /* The longest tape. */
 #define GLENOULTY_LONGEST 16777216

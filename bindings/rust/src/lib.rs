@@ -27,7 +27,7 @@ mod raw;
 pub use order::Order;
 
 /// The bytes of a record.
-pub const SIZE: usize = 629;
+pub const SIZE: usize = 658;
 
 /// The longest tape, in bytes.
 pub const LONGEST: usize = 16_777_216;

@@ -98,8 +98,8 @@ fn bytes_that_are_no_record_are_refused() {
     assert_eq!(Unit::from_bytes(fresh.as_bytes()), Some(fresh.clone()));
     assert_eq!(Unit::from_bytes(&[]), None);
     assert_eq!(Unit::from_bytes(&fresh.as_bytes()[1..]), None);
-    // version, ONLINE above 1, a phase that is none, a number at Rest, a mode that is none, a drive 4 selected
-    for (offset, byte) in [(0, 2), (9, 2), (10, 4), (11, 1), (35, 3), (1, 4)] {
+    // version, ONLINE above 1, a phase that is none, a number at Rest, a reserved byte, a mode that is none, a drive 4 selected
+    for (offset, byte) in [(0, 1), (2, 2), (3, 4), (4, 1), (26, 1), (37, 3), (1, 4)] {
         let mut bytes = *fresh.as_bytes();
         bytes[offset] = byte;
         assert_eq!(Unit::from_bytes(&bytes), None, "byte {byte} at {offset}");

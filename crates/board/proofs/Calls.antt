@@ -7,12 +7,12 @@ use native.Mathlib.Omega.{arith}
 use Rattle.rules.specs.declared.answer.Answer.{Answer}
 use Rattle.rules.specs.declared.answer.Answer.the-variants.{Taken, Raised, OutOfStep, WrongSlot, Malformed, Impossible, TooLong}
 use Rattle.rules.specs.declared.unit.Unit.{Unit}
-use Rattle.tape.specs.Choice.{pick}
+use Rattle.basis.specs.Choice.{pick}
 use Rattle.rules.specs.Unit.{Lent, oneOf, freshUnit}
 use Rattle.rules.specs.Refusal.{possible, possibleDrive, possiblePhase}
 use Rattle.rules.specs.Answer.{rowOf}
 use Rattle.rules.specs.Run.{World, world}
-use Rattle.unit.specs.Runs.{Ran, no-event, next}
+use Rattle.rules.specs.Ran.{Ran, no-event, next}
 use Rattle.unit.proofs.Demands.{demands-hold}
 use Rattle.layout.specs.Number.{byteAt}
 use Rattle.layout.specs.Written.{unit, unitBytes}

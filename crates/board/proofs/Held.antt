@@ -5,7 +5,7 @@ use mathlib.Core.Bool.{true}
 use mathlib.Core.List.{List}
 use lib.ListN.{length}
 use borrow.Author.Tests.{eqb-true}
-use Rattle.rules.proofs.Bools.{both}
+use Rattle.basis.proofs.Choosing.{both}
 use Rattle.layout.specs.Written.{recordSize}
 use Rattle.layout.specs.Read.{isRecord}
 use Rattle.board.specs.Serve.{holds}

@@ -1,6 +1,7 @@
 -- Each exported function's contract leaves one outcome.
 use Prim.Native.Nat.{ℕ}
 use mathlib.Core.Path.{_≡_, sym, ap, ap₂, _∙_}
+use Rattle.basis.specs.Tests.{same}
 use mathlib.Core.List.{List}
 use Rattle.rules.specs.declared.answer.Turn.{Turn}
 use Rattle.rules.specs.Unit.{Lent}
@@ -9,9 +10,6 @@ use Rattle.layout.specs.Written.{unit, unitBytes}
 use Rattle.layout.specs.Read.{coreOf, stagingOf}
 use Rattle.board.specs.Serve.{Tapes, tapes, lentWith, resultBytes, Served, Serves, of-record, of-none}
 use Rattle.board.specs.Outcomes.{OneOutcome}
-
-same : {A : Type 0} {x r r′ : A} → r ≡ x → r′ ≡ x → r ≡ r′
-same p q = p ∙ sym q
 
 -- the tapes beside a staging block
 abbrev pub tapesIn : Lent → Tapes

@@ -6,7 +6,7 @@ use mathlib.Core.List.{List, [], _∷_, map}
 use Rattle.rules.specs.declared.answer.Turn.{Turn}
 use Rattle.rules.specs.Unit.{freshUnit}
 use Rattle.rules.specs.Run.{World, world}
-use Rattle.unit.specs.Runs.{Ran}
+use Rattle.rules.specs.Ran.{Ran}
 use Rattle.layout.specs.Number.{byteAt}
 use Rattle.layout.specs.Read.{fits, isRecord, coreOf, stagingOf, unitOf}
 use Rattle.layout.specs.Laws.{Octets}

@@ -10,6 +10,8 @@ use crate::RESULT;
 use crate::result::lines_bytes;
 use crate::result::no_record;
 use crate::result::result_bytes;
+use answers::lines;
+use answers::possible;
 use layout::RECORD;
 use layout::core_of;
 use layout::is_record;
@@ -19,9 +21,6 @@ use rules::Answer;
 use rules::Core;
 use rules::Unit;
 use tape::BODY;
-use unit::lines;
-use unit::number;
-use unit::possible;
 use unit::step_core;
 
 // The size of a record in bytes.
@@ -40,9 +39,9 @@ pub extern "C" fn glenoulty_fresh(buffer: &mut [u8]) -> u8
     if buffer.len() == RECORD {
         let unit = Unit::fresh();
         write_record(buffer, unit.core, &unit.staging);
-        return number(Answer::Taken);
+        return Answer::Taken.number();
     }
-    number(Answer::Impossible)
+    Answer::Impossible.number()
 }
 
 // One event on a buffer that is a record: read, stepped, written back.
@@ -103,8 +102,8 @@ pub extern "C" fn glenoulty_lines(buffer: &[u8], result: &mut [u8; LINES]) -> u8
 {
     if holds(buffer) {
         *result = lines_bytes(lines(core_of(buffer)));
-        return number(Answer::Taken);
+        return Answer::Taken.number();
     }
     *result = [0; LINES];
-    number(Answer::Impossible)
+    Answer::Impossible.number()
 }

@@ -9,7 +9,6 @@ use crate::RESULT;
 use layout::flag;
 use rules::Answer;
 use rules::Lines;
-use unit::number;
 
 pub(crate) fn lines_bytes(lines: Lines) -> [u8; LINES]
     ensures { λ r. ⌜ r ≡ linesBytes lines ⌝ }
@@ -26,12 +25,12 @@ pub(crate) fn result_bytes(answer: Answer, given: bool, byte: u8, lines: Lines) 
     ensures { λ r. ⌜ r ≡ rowOf answer .number ∷ flag given ∷ byte ∷ linesBytes lines ⌝ }
 {
     let l = lines_bytes(lines);
-    [number(answer), flag(given), byte, l[0], l[1], l[2]]
+    [answer.number(), flag(given), byte, l[0], l[1], l[2]]
 }
 
 // 5, no byte, the lines down.
 pub(crate) fn no_record() -> [u8; RESULT]
     ensures { λ r. ⌜ r ≡ noRecord ⌝ }
 {
-    [number(Answer::Impossible), 0, 0, 0, 0, 0]
+    [Answer::Impossible.number(), 0, 0, 0, 0, 0]
 }

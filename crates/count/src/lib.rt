@@ -1,7 +1,13 @@
 // One counter of a drive raised where its record stands: the record is lent, changed, and stays where it is.
 ghost use mathlib.Core.Path.{_≡_};
 ghost use Rattle.rules.specs.Drive.{errorCounted, underrunCounted};
+
+mod errors;
+mod underruns;
+
+pub use errors::count_errors;
 use rules::Drive;
+pub use underruns::count_underruns;
 
 // The record is taken whole, moved by value, and put back whole.
 pub fn raise_errors(drive: &mut Drive)
@@ -14,21 +20,4 @@ pub fn raise_underruns(drive: &mut Drive)
     ensures { λ _. ⌜ now (drive .exit) ≡ underrunCounted (now (drive .entry)) ⌝ }
 {
     *drive = (*drive).count_underrun();
-}
-
-// For a caller that holds the record by value: a local copy is lent, and handed back.
-pub fn errors_raised(drive: Drive) -> Drive
-    ensures { λ r. ⌜ r ≡ errorCounted drive ⌝ }
-{
-    let mut lent = drive;
-    raise_errors(&mut lent);
-    lent
-}
-
-pub fn underruns_raised(drive: Drive) -> Drive
-    ensures { λ r. ⌜ r ≡ underrunCounted drive ⌝ }
-{
-    let mut lent = drive;
-    raise_underruns(&mut lent);
-    lent
 }

@@ -8,9 +8,12 @@ use lib.Seq.{take-length, length-take-le, take-all, take-at, drop-drop, drop-con
 use Rattle.rules.specs.declared.drive.Drive.{Drive}
 use Rattle.rules.specs.declared.unit.Port.{Port}
 use Rattle.rules.specs.declared.unit.Core.{Core}
-use Rattle.rules.specs.Unit.{reportSize}
-use Rattle.layout.specs.Number.{two, eight}
-use Rattle.layout.specs.Written.{flag, modeByte, phaseByte, phaseNumber, driveBytes, portBytes, placed, unit, unitBytes, portSize, driveSize, recordSize}
+use Rattle.rules.specs.Phase.{reportSize}
+use Rattle.basis.proofs.Placing.{placed-length, take-placed}
+use Rattle.layout.specs.Number.{two, four, eight}
+use Rattle.basis.specs.Placed.{placed}
+use Rattle.layout.specs.Written.{flag, unused, modeByte, latchedBytes, driveBytes, portBytes, unit, unitBytes}
+use Rattle.layout.specs.Written.{portSize, driveSize, recordSize}
 use Rattle.layout.specs.Read.{stretch}
 
 -- a part copied over an array of its size is that part
@@ -21,17 +24,8 @@ unfolding stretch
 part-copied l at end n z r e size fits is =
     let k : end - at ≡ n = omega (arith, e) in
     let part : length (take n (drop at l)) ≡ n = length-take-le n (drop at l) (omega (arith, e, fits, length-drop at l)) in
-    (rw (k) at is) ∙ rw (take-length (take n (drop at l)), drop-of-length-le z {i = length (take n (drop at l))} (omega (arith, part, size)), append-nil)
-
--- bytes copied to the front of the part from an offset on are put at that offset
-pub put-back : (r b q : List ℕ) (at : ℕ) → at + length b ≤ length r
-    → q ≡ take (length b) b ++ drop (length b) (take (length r - at) (drop at r))
-    → take at r ++ (q ++ drop (length r - at) (drop at r)) ≡ placed r at b
-unfolding placed
-put-back r b q at fits is =
-    let behind : take (length r - at) (drop at r) ≡ drop at r = take-all (length r - at) (drop at r) (omega (arith, length-drop at r)) in
-    let none : drop (length r - at) (drop at r) ≡ [] = drop-of-length-le (drop at r) {i = length r - at} (omega (arith, length-drop at r)) in
-    rw (is, behind, none, append-nil, take-length b, drop-drop (length b) at r) (sym (append-assoc (take at r) b (drop (at + length b) r)))
+    let none : drop (length (take n (drop at l))) z ≡ [] = drop-of-length-le z {i = length (take n (drop at l))} (omega (arith, part, size)) in
+    (rw (k) at is) ∙ rw (take-length (take n (drop at l)), none, append-nil)
 
 -- n bytes from an offset on, one by one
 abbrev pub each : ℕ → ℕ → List ℕ → List ℕ
@@ -47,36 +41,15 @@ each-is (suc n) k l fits =
 pub six : (o : List ℕ) → length o ≡ 6 → getD o 0 0 ∷ getD o 1 0 ∷ getD o 2 0 ∷ getD o 3 0 ∷ getD o 4 0 ∷ getD o 5 0 ∷ [] ≡ o
 six o size = each-is 6 0 o (omega (arith, size)) ∙ take-all 6 o (omega (arith, size))
 
-pub drive-listed : (d : Drive) (h e u : List ℕ) (a b m x c0 c1 c2 c3 c4 c5 c6 : ℕ)
-    → h ≡ eight (d .head) → e ≡ two (d .errors .0) → u ≡ two (d .underruns .0)
+-- the bytes of a drive, made one by one from what each call gave
+pub drive-listed : (d : Drive) (h e u l : List ℕ) (a b m x : ℕ)
+    → h ≡ eight (d .head) → e ≡ two (d .errors .0) → u ≡ two (d .underruns .0) → l ≡ latchedBytes (d .latched)
     → a ≡ flag (d .loaded) → b ≡ flag (d .protected) → m ≡ modeByte (d .mode) → x ≡ flag (d .exception)
-    → c0 ≡ flag (d .latched .cni) → c1 ≡ flag (d .latched .eom) → c2 ≡ flag (d .latched .ude) → c3 ≡ flag (d .latched .fil)
-    → c4 ≡ flag (d .latched .ill) → c5 ≡ flag (d .latched .ndt) → c6 ≡ flag (d .latched .por)
-    → a ∷ b ∷ getD h 0 0 ∷ getD h 1 0 ∷ getD h 2 0 ∷ getD h 3 0 ∷ getD h 4 0 ∷ getD h 5 0 ∷ getD h 6 0 ∷ getD h 7 0 ∷ m ∷ x ∷ c0 ∷ c1 ∷ c2 ∷ c3 ∷ c4 ∷ c5 ∷ c6
-    ∷ getD e 0 0 ∷ getD e 1 0 ∷ getD u 0 0 ∷ getD u 1 0 ∷ [] ≡ driveBytes d
+    → each 8 0 h
+    ++ (four unused ++ (each 2 0 e ++ (each 2 0 u ++ ((a ∷ b ∷ unused ∷ m ∷ unused ∷ x ∷ []) ++ (each 8 0 l ++ two unused)))))
+    ≡ driveBytes d
 unfolding driveBytes
-drive-listed d h e u a b m x c0 c1 c2 c3 c4 c5 c6 p0 p1 p2 p3 p4 p5 p6 p7 p8 p9 p10 p11 p12 p13 =
-    rw (p0, p1, p2, p3, p4, p5, p6, p7, p8, p9, p10, p11, p12, p13) refl
-
-pub port-listed : (p : Port) (n : List ℕ) (x b : ℕ) → length (p .octets) ≡ 6
-    → n ≡ eight (phaseNumber (p .phase)) → x ≡ flag (p .online) → b ≡ phaseByte (p .phase)
-    → 1 ∷ p .selected ∷ 0 ∷ 0 ∷ 0 ∷ 0 ∷ 0 ∷ 0 ∷ 0 ∷ x ∷ b
-    ∷ getD n 0 0 ∷ getD n 1 0 ∷ getD n 2 0 ∷ getD n 3 0 ∷ getD n 4 0 ∷ getD n 5 0 ∷ getD n 6 0 ∷ getD n 7 0
-    ∷ getD (p .octets) 0 0 ∷ getD (p .octets) 1 0 ∷ getD (p .octets) 2 0 ∷ getD (p .octets) 3 0 ∷ getD (p .octets) 4 0 ∷ getD (p .octets) 5 0 ∷ [] ≡ portBytes p
-unfolding portBytes
-port-listed p n x b size p0 p1 p2 = rw (p0, p1, p2, six (p .octets) size) refl
-
--- what stands up to the end of what was put, and that the buffer keeps its length
-put-next : (r b w : List ℕ) (at : ℕ) → at + length b ≤ length r → take at r ≡ w → take (at + length b) (placed r at b) ≡ w ++ b
-unfolding placed
-put-next r b w at fits so =
-    let size : length (take at r ++ b) ≡ at + length b = length-append (take at r) b ∙ ap (λ (k : ℕ). k + length b) (length-take-le at r (omega (arith, fits))) in
-    take-at (take at r ++ b) (drop (at + length b) r) (at + length b) size
-    ∙ ap (λ (x : List ℕ). x ++ b) so
-
-placed-long : (r b : List ℕ) (at : ℕ) → at + length b ≤ length r → length (placed r at b) ≡ length r
-unfolding placed
-placed-long r b at fits = ap length (sym (sets-eq b r at fits)) ∙ length-sets r at b
+drive-listed d h e u l a b m x p0 p1 p2 p3 p4 p5 p6 p7 = rw (p0, p1, p2, p3, p4, p5, p6, p7) refl
 
 -- A buffer of a record's size, as far as it is written.
 pub record Wrote (r : List ℕ) (to : ℕ) (w : List ℕ) : Type 0 where
@@ -86,30 +59,25 @@ pub record Wrote (r : List ℕ) (to : ℕ) (w : List ℕ) : Type 0 where
 pub nothing-yet : (r : List ℕ) → length r ≡ recordSize → Wrote r 0 []
 nothing-yet r size = record { front = refl; size = size }
 
-pub put-on : {r r′ w : List ℕ} (b : List ℕ) (at n : ℕ) → Wrote r at w → length b ≡ n → at + n ≤ recordSize → r′ ≡ placed r at b → Wrote r′ (at + n) (w ++ b)
+pub put-on : {r r′ w : List ℕ} (b : List ℕ) (at n : ℕ) → Wrote r at w → length b ≡ n → at + n ≤ recordSize
+    → r′ ≡ placed r at b → Wrote r′ (at + n) (w ++ b)
 put-on {r} {r′} {w} b at n before size fits is =
     let room : at + length b ≤ length r = omega (arith, size, fits, before .size) in
-    let next : take (at + length b) r′ ≡ w ++ b = ap (take (at + length b)) is ∙ put-next r b w at room (before .front) in
-    let long : length r′ ≡ length r = ap length is ∙ placed-long r b at room in
+    let next : take (at + length b) r′ ≡ w ++ b = ap (take (at + length b)) is ∙ take-placed r at b room ∙ ap (λ (x : List ℕ). x ++ b) (before .front) in
+    let long : length r′ ≡ length r = ap length is ∙ placed-length r at b room in
     record { front = ap (λ (k : ℕ). take (at + k) r′) (sym size) ∙ next; size = long ∙ before .size }
 
+-- what six puts one behind the other have written is a record
 pub all-written : (r : List ℕ) (c : Core) (g : List ℕ)
-    → Wrote r recordSize (((((([] ++ portBytes (c .port)) ++ driveBytes (c .drive0)) ++ driveBytes (c .drive1)) ++ driveBytes (c .drive2)) ++ driveBytes (c .drive3)) ++ g)
+    → Wrote r recordSize
+    (((((([] ++ portBytes (c .port)) ++ driveBytes (c .drive0)) ++ driveBytes (c .drive1)) ++ driveBytes (c .drive2)) ++ driveBytes (c .drive3)) ++ g)
     → r ≡ unitBytes (unit c g)
 unfolding unitBytes
-all-written r c g wrote =
-    let p = portBytes (c .port) in
-    let d0 = driveBytes (c .drive0) in
-    let d1 = driveBytes (c .drive1) in
-    let d2 = driveBytes (c .drive2) in
-    let d3 = driveBytes (c .drive3) in
-    let whole : r ≡ ((((p ++ d0) ++ d1) ++ d2) ++ d3) ++ g = sym (take-all recordSize r (omega (arith, wrote .size))) ∙ wrote .front in
-    whole ∙ append-assoc (((p ++ d0) ++ d1) ++ d2) d3 g ∙ append-assoc ((p ++ d0) ++ d1) d2 (d3 ++ g) ∙ append-assoc (p ++ d0) d1 (d2 ++ (d3 ++ g))
-    ∙ append-assoc p d0 (d1 ++ (d2 ++ (d3 ++ g)))
+all-written r c g wrote = sym (take-all recordSize r (omega (arith, wrote .size))) ∙ wrote .front ∙ simp append-assoc
 
 pub port-long : (p : Port) → length (p .octets) ≡ reportSize → length (portBytes p) ≡ portSize
 unfolding portBytes
-port-long p size = ap (λ (k : ℕ). suc (suc (suc (suc (suc (suc (suc (suc (suc (suc (suc (suc (suc (suc (suc (suc (suc (suc (suc k))))))))))))))))))) size
+port-long p size = simp size
 
 pub drive-long : (d : Drive) → length (driveBytes d) ≡ driveSize
 unfolding driveBytes

@@ -13,10 +13,6 @@ four n = two (n % 65536) ++ two (n / 65536)
 abbrev pub eight : ℕ → List ℕ
 eight n = four (n % 4294967296) ++ four (n / 4294967296)
 
--- A byte in the room of eight: behind it zeros.
-abbrev pub padded : ℕ → List ℕ
-padded b = b ∷ 0 ∷ 0 ∷ 0 ∷ 0 ∷ 0 ∷ 0 ∷ 0 ∷ []
-
 -- The number whose two halves are given.
 abbrev pub of2 : ℕ → ℕ → ℕ
 of2 low high = low + 256 * high

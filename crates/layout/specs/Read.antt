@@ -4,19 +4,19 @@ use mathlib.Core.Bool.{Bool, _&&_, _||_}
 use mathlib.Core.List.{List, [], _∷_}
 use lib.Dec.{eqb, leb}
 use lib.ListN.{length, take, drop}
-use Rattle.tape.specs.Choice.{pick}
+use Rattle.basis.specs.Choice.{pick}
 use Rattle.tape.specs.Record.{bodySize}
 use Rattle.rules.specs.declared.drive.Drive.{Drive}
 use Rattle.rules.specs.declared.drive.Latched.{Latched}
 use Rattle.rules.specs.declared.drive.Mode.{Mode}
 use Rattle.rules.specs.declared.drive.Mode.the-variants.{Idle, Writing, Reading}
-use Rattle.rules.specs.declared.unit.Phase.{Phase}
-use Rattle.rules.specs.declared.unit.Phase.the-variants.{Rest, Taking, Giving, Status}
+use Rattle.rules.specs.declared.phase.Phase.{Phase}
+use Rattle.rules.specs.declared.phase.Phase.the-variants.{Rest, Taking, Giving, Status}
 use Rattle.rules.specs.declared.unit.Port.{Port}
 use Rattle.rules.specs.declared.unit.Core.{Core}
 use Rattle.rules.specs.declared.unit.Unit.{Unit}
-use Rattle.layout.specs.Number.{byteAt, twoAt, eightAt}
-use Rattle.layout.specs.Written.{version, portSize, driveSize, recordSize}
+use Rattle.layout.specs.Number.{byteAt, twoAt, fourAt, eightAt}
+use Rattle.layout.specs.Written.{version, unused, portSize, driveSize, recordSize}
 
 -- The n bytes that begin at an offset.
 unfoldable pub stretch : ℕ → ℕ → List ℕ → List ℕ
@@ -32,34 +32,37 @@ isMode b = leb b 2
 abbrev pub isPhase : ℕ → ℕ → Bool
 isPhase b n = leb b 3 && (leb 1 b || eqb n 0)
 
--- The selected drive is a byte in the room of eight: behind it zeros, or a record would have many forms.
-abbrev pub isPadded : List ℕ → Bool
-isPadded l =
-    eqb (byteAt l 2) 0
-    && (eqb (byteAt l 3) 0
-    && (eqb (byteAt l 4) 0 && (eqb (byteAt l 5) 0 && (eqb (byteAt l 6) 0 && (eqb (byteAt l 7) 0 && eqb (byteAt l 8) 0)))))
+-- Room that no field has is unused, or a record would have many forms.
+abbrev pub isUnused : ℕ → Bool
+isUnused n = eqb n unused
 
--- Seven bools, a drive's bytes, the port's bytes.
+-- Seven bools, the room among a drive's fields, a drive's bytes, the port's bytes.
 abbrev pub isLatched : List ℕ → Bool
 isLatched l =
-    isFlag (byteAt l 12)
-    && (isFlag (byteAt l 13)
-    && (isFlag (byteAt l 14) && (isFlag (byteAt l 15) && (isFlag (byteAt l 16) && (isFlag (byteAt l 17) && isFlag (byteAt l 18))))))
+    isFlag (byteAt l 22)
+    && (isFlag (byteAt l 23)
+    && (isFlag (byteAt l 24) && (isFlag (byteAt l 26) && (isFlag (byteAt l 27) && (isFlag (byteAt l 28) && isFlag (byteAt l 29))))))
+
+abbrev pub leavesRoom : List ℕ → Bool
+leavesRoom l =
+    isUnused (fourAt l 8)
+    && (isUnused (byteAt l 18) && (isUnused (byteAt l 20) && (isUnused (byteAt l 25) && isUnused (twoAt l 30))))
 
 unfoldable pub isDrive : List ℕ → Bool
 isDrive l =
-    isFlag (byteAt l 0) && (isFlag (byteAt l 1) && (isMode (byteAt l 10) && (isFlag (byteAt l 11) && isLatched l)))
+    isFlag (byteAt l 16)
+    && (isFlag (byteAt l 17) && (isMode (byteAt l 19) && (isFlag (byteAt l 21) && (isLatched l && leavesRoom l))))
 
 unfoldable pub isPort : List ℕ → Bool
-isPort l = eqb (byteAt l 0) version && (isPadded l && (isFlag (byteAt l 9) && isPhase (byteAt l 10) (eightAt l 11)))
+isPort l = eqb (byteAt l 0) version && (isFlag (byteAt l 2) && isPhase (byteAt l 3) (eightAt l 4))
 
 -- WHICH BYTES ARE A RECORD: as many as a record has, and each part of them what it should be. It may still be one that cannot be.
 unfoldable pub isRecord : List ℕ → Bool
 isRecord l =
     eqb (length l) recordSize
     && (isPort (stretch 0 portSize l)
-    && (isDrive (stretch 25 driveSize l)
-    && (isDrive (stretch 48 driveSize l) && (isDrive (stretch 71 driveSize l) && isDrive (stretch 94 driveSize l)))))
+    && (isDrive (stretch 18 driveSize l)
+    && (isDrive (stretch 50 driveSize l) && (isDrive (stretch 82 driveSize l) && isDrive (stretch 114 driveSize l)))))
 
 -- What the bytes say, field by field, in the order in which they are written.
 abbrev pub flagOf : ℕ → Bool
@@ -74,49 +77,49 @@ phaseOf b n = pick (eqb b 0) Rest (pick (eqb b 1) (Taking n) (pick (eqb b 2) (Gi
 abbrev pub latchedOf : List ℕ → Latched
 latchedOf l =
     record {
-      cni = flagOf (byteAt l 12);
-      eom = flagOf (byteAt l 13);
-      ude = flagOf (byteAt l 14);
-      fil = flagOf (byteAt l 15);
-      ill = flagOf (byteAt l 16);
-      ndt = flagOf (byteAt l 17);
-      por = flagOf (byteAt l 18);
+      cni = flagOf (byteAt l 22);
+      eom = flagOf (byteAt l 23);
+      ude = flagOf (byteAt l 24);
+      fil = flagOf (byteAt l 26);
+      ill = flagOf (byteAt l 27);
+      ndt = flagOf (byteAt l 28);
+      por = flagOf (byteAt l 29);
     }
 
 unfoldable pub driveOf : List ℕ → Drive
 driveOf l =
     record {
-      loaded = flagOf (byteAt l 0);
-      protected = flagOf (byteAt l 1);
-      head = eightAt l 2;
-      mode = modeOf (byteAt l 10);
-      exception = flagOf (byteAt l 11);
+      head = eightAt l 0;
+      errors = record { 0 = twoAt l 12 };
+      underruns = record { 0 = twoAt l 14 };
+      loaded = flagOf (byteAt l 16);
+      protected = flagOf (byteAt l 17);
+      mode = modeOf (byteAt l 19);
+      exception = flagOf (byteAt l 21);
       latched = latchedOf l;
-      errors = record { 0 = twoAt l 19 };
-      underruns = record { 0 = twoAt l 21 };
     }
 
 unfoldable pub portOf : List ℕ → Port
 portOf l =
     record {
       selected = byteAt l 1;
-      online = flagOf (byteAt l 9);
-      phase = phaseOf (byteAt l 10) (eightAt l 11);
-      octets = byteAt l 19 ∷ byteAt l 20 ∷ byteAt l 21 ∷ byteAt l 22 ∷ byteAt l 23 ∷ byteAt l 24 ∷ [];
+      online = flagOf (byteAt l 2);
+      phase = phaseOf (byteAt l 3) (eightAt l 4);
+      octets = byteAt l 12 ∷ byteAt l 13 ∷ byteAt l 14 ∷ byteAt l 15 ∷ byteAt l 16 ∷ byteAt l 17 ∷ [];
     }
 
 unfoldable pub coreOf : List ℕ → Core
 coreOf l =
     record {
       port = portOf (stretch 0 portSize l);
-      drive0 = driveOf (stretch 25 driveSize l);
-      drive1 = driveOf (stretch 48 driveSize l);
-      drive2 = driveOf (stretch 71 driveSize l);
-      drive3 = driveOf (stretch 94 driveSize l);
+      drive0 = driveOf (stretch 18 driveSize l);
+      drive1 = driveOf (stretch 50 driveSize l);
+      drive2 = driveOf (stretch 82 driveSize l);
+      drive3 = driveOf (stretch 114 driveSize l);
     }
 
 unfoldable pub stagingOf : List ℕ → List ℕ
-stagingOf l = stretch 117 bodySize l
+stagingOf l = stretch 146 bodySize l
 
 abbrev pub unitOf : List ℕ → Unit
 unitOf l = record { core = coreOf l; staging = stagingOf l }

@@ -1,35 +1,37 @@
 -- The record of a unit written as bytes, field by field.
-use Prim.Native.Nat.{ℕ, _+_}
+use Prim.Native.Nat.{ℕ}
 use mathlib.Core.Path.{_≡_}
 use mathlib.Core.Bool.{Bool, true, false}
 use mathlib.Core.List.{List, [], _∷_, _++_}
-use lib.ListN.{length, take, drop}
+use lib.ListN.{length}
 use Rattle.tape.specs.Record.{bodySize}
 use Rattle.rules.specs.declared.drive.Drive.{Drive}
 use Rattle.rules.specs.declared.drive.Latched.{Latched}
 use Rattle.rules.specs.declared.drive.Mode.{Mode}
 use Rattle.rules.specs.declared.drive.Mode.the-variants.{Idle, Writing, Reading}
-use Rattle.rules.specs.declared.unit.Phase.{Phase}
-use Rattle.rules.specs.declared.unit.Phase.the-variants.{Rest, Taking, Giving, Status}
 use Rattle.rules.specs.declared.unit.Port.{Port}
 use Rattle.rules.specs.declared.unit.Core.{Core}
 use Rattle.rules.specs.declared.unit.Unit.{Unit}
-use Rattle.rules.specs.Unit.{reportSize}
-use Rattle.layout.specs.Number.{two, eight, padded}
+use Rattle.rules.specs.Phase.{reportSize, whichPhase, howFar}
+use Rattle.layout.specs.Number.{two, four, eight}
 
 -- The first byte of every record.
 abbrev pub version : ℕ
-version = 1
+version = 2
 
 -- The bytes of the port, of a drive, and of a whole record.
 abbrev pub portSize : ℕ
-portSize = 25
+portSize = 18
 
 abbrev pub driveSize : ℕ
-driveSize = 23
+driveSize = 32
 
 abbrev pub recordSize : ℕ
-recordSize = 629
+recordSize = 658
+
+-- What stands in room that no field has.
+abbrev pub unused : ℕ
+unused = 0
 
 -- A bool and a mode.
 abbrev pub flag : Bool → ℕ
@@ -41,39 +43,26 @@ modeByte Idle = 0
 modeByte Writing = 1
 modeByte Reading = 2
 
--- A phase: which it is, and its number: of bytes so far, of octets outstanding, 0 at Rest.
-abbrev pub phaseByte : Phase → ℕ
-phaseByte Rest = 0
-phaseByte (Taking n) = 1
-phaseByte (Giving n) = 2
-phaseByte (Status k) = 3
-
-abbrev pub phaseNumber : Phase → ℕ
-phaseNumber Rest = 0
-phaseNumber (Taking n) = n
-phaseNumber (Giving n) = n
-phaseNumber (Status k) = k
-
--- The latched bits, a byte each.
+-- The latched bits, a byte each in the order of the octets, where BNL stands before FIL.
 abbrev pub latchedBytes : Latched → List ℕ
-latchedBytes l = flag (l .cni) ∷ flag (l .eom) ∷ flag (l .ude) ∷ flag (l .fil) ∷ flag (l .ill) ∷ flag (l .ndt) ∷ flag (l .por) ∷ []
+latchedBytes l = flag (l .cni) ∷ flag (l .eom) ∷ flag (l .ude) ∷ unused ∷ flag (l .fil) ∷ flag (l .ill) ∷ flag (l .ndt) ∷ flag (l .por) ∷ []
 
--- A drive: cartridge and plug, head, mode and EXCEPTION, latched bits, errors, underruns.
+-- Cartridge and plug, mode and EXCEPTION, with room behind the plug and behind the mode.
+abbrev pub stateBytes : Drive → List ℕ
+stateBytes d = flag (d .loaded) ∷ flag (d .protected) ∷ unused ∷ modeByte (d .mode) ∷ unused ∷ flag (d .exception) ∷ []
+
+-- A drive: head, room for a number, errors, underruns, state, latched bits, two bytes to spare.
 unfoldable pub driveBytes : Drive → List ℕ
 driveBytes d =
-    (flag (d .loaded) ∷ flag (d .protected) ∷ [])
-    ++ (eight (d .head)
-    ++ ((modeByte (d .mode) ∷ flag (d .exception) ∷ []) ++ (latchedBytes (d .latched) ++ (two (d .errors .0) ++ two (d .underruns .0)))))
+    eight (d .head)
+    ++ (four unused
+    ++ (two (d .errors .0) ++ (two (d .underruns .0) ++ (stateBytes d ++ (latchedBytes (d .latched) ++ two unused)))))
 
 -- The port: version, selected drive, ONLINE and phase, the phase's number, octets.
 unfoldable pub portBytes : Port → List ℕ
 portBytes p =
-    (version ∷ [])
-    ++ (padded (p .selected) ++ ((flag (p .online) ∷ phaseByte (p .phase) ∷ []) ++ (eight (phaseNumber (p .phase)) ++ p .octets)))
-
--- A buffer after bytes were put at an offset of it: what was before and behind them stays.
-unfoldable pub placed : List ℕ → ℕ → List ℕ → List ℕ
-placed r at b = take at r ++ b ++ drop (at + length b) r
+    (version ∷ p .selected ∷ flag (p .online) ∷ whichPhase (p .phase) ∷ [])
+    ++ (eight (howFar (p .phase)) ++ p .octets)
 
 -- A unit is its core and its staging block.
 abbrev pub unit : Core → List ℕ → Unit

@@ -10,12 +10,12 @@ pub use write::flag;
 pub use write::write_record;
 
 // The first byte of each record.
-pub(crate) const VERSION: u8 = 1;
+pub(crate) const VERSION: u8 = 2;
 
 // The bytes of the port and of a drive.
-pub(crate) const PORT: usize = 25;
+pub(crate) const PORT: usize = 18;
 
-pub(crate) const DRIVE: usize = 23;
+pub(crate) const DRIVE: usize = 32;
 
 // Where each drive and the staging block begin, and where the record ends.
 pub(crate) const DRIVE_0: usize = PORT;

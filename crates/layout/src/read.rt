@@ -1,11 +1,10 @@
 // Bytes read as a record.
 ghost use mathlib.Core.Path.{_≡_};
 ghost use Prim.Native.Nat.{_+_, _≤_};
-ghost use lib.ListN.{length};
-ghost use Rattle.tape.specs.Record.{bodySize};
 ghost use Rattle.layout.specs.Number.{eightAt};
 ghost use Rattle.layout.specs.Written.{recordSize, driveSize, portSize};
-ghost use Rattle.layout.specs.Read.{stretch, isPhase, isLatched, isDrive, isPort, isRecord, modeOf, phaseOf, latchedOf, driveOf, portOf, coreOf, stagingOf};
+ghost use Rattle.layout.specs.Read.{stretch, isPhase, isLatched, leavesRoom, isDrive, isPort, isRecord};
+ghost use Rattle.layout.specs.Read.{modeOf, phaseOf, latchedOf, driveOf, portOf, coreOf, stagingOf};
 use crate::DRIVE;
 use crate::DRIVE_0;
 use crate::DRIVE_1;
@@ -63,79 +62,85 @@ fn phase_of(b: u8, n: usize) -> Phase
 fn is_latched(p: &[u8; DRIVE]) -> bool
     ensures { λ r. ⌜ r ≡ isLatched (now (p .entry)) ⌝ }
 {
-    (p[12] <= 1)
-        & ((p[13] <= 1)
-            & ((p[14] <= 1) & ((p[15] <= 1) & ((p[16] <= 1) & ((p[17] <= 1) & (p[18] <= 1))))))
+    (p[22] <= 1)
+        & ((p[23] <= 1)
+            & ((p[24] <= 1) & ((p[26] <= 1) & ((p[27] <= 1) & ((p[28] <= 1) & (p[29] <= 1))))))
+}
+
+// Room that no field has is 0.
+fn leaves_room(p: &[u8; DRIVE]) -> bool
+    ensures { λ r. ⌜ r ≡ leavesRoom (now (p .entry)) ⌝ }
+{
+    (of_four(p[8], p[9], p[10], p[11]) == 0)
+        & ((p[18] == 0) & ((p[20] == 0) & ((p[25] == 0) & (of_two(p[30], p[31]) == 0))))
 }
 
 fn is_drive(p: &[u8; DRIVE]) -> bool
     ensures { λ r. ⌜ r ≡ isDrive (now (p .entry)) ⌝ }
 {
-    (p[0] <= 1) & ((p[1] <= 1) & ((p[10] <= 2) & ((p[11] <= 1) & is_latched(p))))
+    (p[16] <= 1)
+        & ((p[17] <= 1) & ((p[19] <= 2) & ((p[21] <= 1) & (is_latched(p) & leaves_room(p)))))
 }
 
 fn phase_number(p: &[u8; PORT]) -> usize
-    ensures { λ r. ⌜ r ≡ eightAt (now (p .entry)) 11 ⌝ }
+    ensures { λ r. ⌜ r ≡ eightAt (now (p .entry)) 4 ⌝ }
 {
     of_eight(
-        of_four(p[11], p[12], p[13], p[14]),
-        of_four(p[15], p[16], p[17], p[18]),
+        of_four(p[4], p[5], p[6], p[7]),
+        of_four(p[8], p[9], p[10], p[11]),
     )
 }
 
 fn is_port(p: &[u8; PORT]) -> bool
     ensures { λ r. ⌜ r ≡ isPort (now (p .entry)) ⌝ }
 {
-    let padded = (p[2] == 0)
-        & ((p[3] == 0)
-            & ((p[4] == 0) & ((p[5] == 0) & ((p[6] == 0) & ((p[7] == 0) & (p[8] == 0))))));
-    (p[0] == VERSION) & (padded & ((p[9] <= 1) & is_phase(p[10], phase_number(p))))
+    (p[0] == VERSION) & ((p[2] <= 1) & is_phase(p[3], phase_number(p)))
 }
 
 fn latched_of(p: &[u8; DRIVE]) -> Latched
     ensures { λ r. ⌜ r ≡ latchedOf (now (p .entry)) ⌝ }
 {
     Latched {
-        cni: p[12] == 1,
-        eom: p[13] == 1,
-        ude: p[14] == 1,
-        fil: p[15] == 1,
-        ill: p[16] == 1,
-        ndt: p[17] == 1,
-        por: p[18] == 1,
+        cni: p[22] == 1,
+        eom: p[23] == 1,
+        ude: p[24] == 1,
+        fil: p[26] == 1,
+        ill: p[27] == 1,
+        ndt: p[28] == 1,
+        por: p[29] == 1,
     }
 }
 
 fn drive_of(p: &[u8; DRIVE]) -> Drive
     ensures { λ r. ⌜ r ≡ driveOf (now (p .entry)) ⌝ }
 {
-    let mode = mode_of(p[10]);
     let head = of_eight(
-        of_four(p[2], p[3], p[4], p[5]),
-        of_four(p[6], p[7], p[8], p[9]),
+        of_four(p[0], p[1], p[2], p[3]),
+        of_four(p[4], p[5], p[6], p[7]),
     );
+    let mode = mode_of(p[19]);
     let latched = latched_of(p);
     Drive {
-        loaded: p[0] == 1,
-        protected: p[1] == 1,
         head,
+        errors: Errors(of_two(p[12], p[13])),
+        underruns: Underruns(of_two(p[14], p[15])),
+        loaded: p[16] == 1,
+        protected: p[17] == 1,
         mode,
-        exception: p[11] == 1,
+        exception: p[21] == 1,
         latched,
-        errors: Errors(of_two(p[19], p[20])),
-        underruns: Underruns(of_two(p[21], p[22])),
     }
 }
 
 fn port_of(p: &[u8; PORT]) -> Port
     ensures { λ r. ⌜ r ≡ portOf (now (p .entry)) ⌝ }
 {
-    let phase = phase_of(p[10], phase_number(p));
+    let phase = phase_of(p[3], phase_number(p));
     Port {
         selected: p[1],
-        online: p[9] == 1,
+        online: p[2] == 1,
         phase,
-        octets: [p[19], p[20], p[21], p[22], p[23], p[24]],
+        octets: [p[12], p[13], p[14], p[15], p[16], p[17]],
     }
 }
 

@@ -2,8 +2,10 @@
 ghost use mathlib.Core.Path.{_≡_};
 ghost use Prim.Native.Nat.{_+_, _≤_};
 ghost use lib.ListN.{length};
-ghost use Rattle.rules.specs.Unit.{reportSize};
-ghost use Rattle.layout.specs.Written.{flag, modeByte, phaseByte, phaseNumber, driveBytes, portBytes, placed, unit, Sized, unitBytes, portSize, driveSize, recordSize};
+ghost use Rattle.basis.specs.Placed.{placed};
+ghost use Rattle.rules.specs.Phase.{reportSize};
+ghost use Rattle.layout.specs.Written.{flag, modeByte, latchedBytes, driveBytes, portBytes, unitBytes};
+ghost use Rattle.layout.specs.Written.{unit, Sized, portSize, driveSize, recordSize};
 use crate::DRIVE;
 use crate::DRIVE_0;
 use crate::DRIVE_1;
@@ -14,12 +16,16 @@ use crate::STAGING;
 use crate::VERSION;
 use crate::number::eight;
 use crate::number::two;
+use basis::put;
 use rules::Core;
 use rules::Drive;
+use rules::Latched;
 use rules::Mode;
-use rules::Phase;
 use rules::Port;
 use tape::BODY;
+
+// What stands in room that no field has.
+const UNUSED: u8 = 0;
 
 // A bool as a byte.
 pub fn flag(b: bool) -> u8
@@ -38,39 +44,30 @@ fn mode_byte(mode: Mode) -> u8
     }
 }
 
-fn phase_byte(phase: Phase) -> u8
-    ensures { λ r. ⌜ r ≡ phaseByte phase ⌝ }
+fn latched_bytes(l: Latched) -> [u8; 8]
+    ensures { λ r. ⌜ r ≡ latchedBytes l ⌝ }
 {
-    match phase {
-        Phase::Rest => 0,
-        Phase::Taking(_) => 1,
-        Phase::Giving(_) => 2,
-        Phase::Status(_) => 3,
-    }
-}
-
-fn phase_number(phase: Phase) -> usize
-    ensures { λ r. ⌜ r ≡ phaseNumber phase ⌝ }
-{
-    match phase {
-        Phase::Rest => 0,
-        Phase::Taking(n) => n,
-        Phase::Giving(n) => n,
-        Phase::Status(k) => k,
-    }
+    [
+        flag(l.cni),
+        flag(l.eom),
+        flag(l.ude),
+        UNUSED,
+        flag(l.fil),
+        flag(l.ill),
+        flag(l.ndt),
+        flag(l.por),
+    ]
 }
 
 fn drive_bytes(drive: Drive) -> [u8; DRIVE]
     ensures { λ r. ⌜ r ≡ driveBytes drive ⌝ }
 {
-    let mode = drive.mode;
     let h = eight(drive.head);
-    let l = drive.latched;
     let e = two(drive.errors.0);
     let u = two(drive.underruns.0);
+    let mode = drive.mode;
+    let l = latched_bytes(drive.latched);
     [
-        flag(drive.loaded),
-        flag(drive.protected),
         h[0],
         h[1],
         h[2],
@@ -79,19 +76,30 @@ fn drive_bytes(drive: Drive) -> [u8; DRIVE]
         h[5],
         h[6],
         h[7],
-        mode_byte(mode),
-        flag(drive.exception),
-        flag(l.cni),
-        flag(l.eom),
-        flag(l.ude),
-        flag(l.fil),
-        flag(l.ill),
-        flag(l.ndt),
-        flag(l.por),
+        UNUSED,
+        UNUSED,
+        UNUSED,
+        UNUSED,
         e[0],
         e[1],
         u[0],
         u[1],
+        flag(drive.loaded),
+        flag(drive.protected),
+        UNUSED,
+        mode_byte(mode),
+        UNUSED,
+        flag(drive.exception),
+        l[0],
+        l[1],
+        l[2],
+        l[3],
+        l[4],
+        l[5],
+        l[6],
+        l[7],
+        UNUSED,
+        UNUSED,
     ]
 }
 
@@ -99,20 +107,13 @@ fn port_bytes(port: Port) -> [u8; PORT]
     ensures { λ r. ⌜ r ≡ portBytes port ⌝ }
 {
     let phase = port.phase;
-    let n = eight(phase_number(phase));
+    let n = eight(phase.how_far());
     let o = port.octets;
     [
         VERSION,
         port.selected,
-        0,
-        0,
-        0,
-        0,
-        0,
-        0,
-        0,
         flag(port.online),
-        phase_byte(phase),
+        phase.which(),
         n[0],
         n[1],
         n[2],
@@ -128,14 +129,6 @@ fn port_bytes(port: Port) -> [u8; PORT]
         o[4],
         o[5],
     ]
-}
-
-// Bytes put at an offset.
-fn put(buffer: &mut [u8], at: usize, bytes: &[u8])
-    requires { do ⌜ at + (← ⟦bytes.len()⟧) ≤ (← ⟦buffer.len()⟧) ⌝ }
-    ensures { λ _. ⌜ now (buffer .exit) ≡ placed (now (buffer .entry)) at (now (bytes .entry)) ⌝ }
-{
-    bytes::copy(bytes, &mut buffer[at..]);
 }
 
 fn put_port(buffer: &mut [u8], port: Port)

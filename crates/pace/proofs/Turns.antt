@@ -1,57 +1,48 @@
 -- One turn of a loop over pairs: what is left to run behind a pair comes to what was left before it.
-use Prim.Native.Nat.{ℕ, suc, _+_, _-_, _<_, _≤_}
-use mathlib.Core.Path.{_≡_, refl, sym, ap, _∙_}
-use mathlib.Core.Bool.{Bool, true, false, _&&_}
+use Prim.Native.Nat.{ℕ, zero, suc, _+_, _-_, _<_, _≤_}
+use mathlib.Core.Path.{_≡_, refl, sym, ap, ap₂, _∙_}
 use mathlib.Core.List.{List, [], _∷_}
 use native.Mathlib.Omega.{arith}
-use lib.Dec.{leb}
 use lib.ListN.{length, getD, take, drop, length-drop}
 use lib.Seq.{drop-cons}
-use Rattle.tape.specs.Choice.{pick}
 use Rattle.rules.specs.declared.unit.Core.{Core}
 use Rattle.rules.specs.declared.answer.Turn.{Turn}
 use Rattle.rules.specs.Unit.{Lent, lent}
 use Rattle.rules.specs.Step.{Steps}
 use Rattle.rules.specs.Run.{World, world, run, freshWorld}
-use Rattle.unit.proofs.Runs.{steps-go-on}
-use Rattle.pace.specs.Pairs.{sizeOf, pairsOf, Paced}
-
-pub size-fits : (k : ℕ) → (1 ≤ sizeOf k) × (sizeOf k ≤ 2)
-unfolding sizeOf pick
-size-fits k = go (leb 3 k && leb k 6)
-  where
-    go : (b : Bool) → (1 ≤ pick b 1 2) × (pick b 1 2 ≤ 2)
-    go true = (omega arith, omega arith)
-    go false = (omega arith, omega arith)
+use Rattle.rules.proofs.Ran.{loop-goes-on}
+use Rattle.trace.specs.Cut.{kindSize}
+use Rattle.pace.specs.Pairs.{pairsOf, Paced}
 
 -- the bytes of an event, with anything behind its pair
-taken : (k b : ℕ) (l : List ℕ) → take (sizeOf k) (k ∷ (b ∷ l)) ≡ take (sizeOf k) (k ∷ b ∷ [])
-unfolding sizeOf pick
-taken k b l = go (leb 3 k && leb k 6)
-  where
-    go : (v : Bool) → take (pick v 1 2) (k ∷ (b ∷ l)) ≡ take (pick v 1 2) (k ∷ b ∷ [])
-    go true = refl
-    go false = refl
+taken : (n k b : ℕ) (l : List ℕ) → n ≤ 2 → take n (k ∷ (b ∷ l)) ≡ take n (k ∷ b ∷ [])
+taken zero k b l h = refl
+taken (suc zero) k b l h = refl
+taken (suc (suc zero)) k b l h = refl
+taken (suc (suc (suc n))) k b l h = absurd (omega arith)
 
 pair-then-rest : (l : List ℕ) (i : ℕ) → i + 1 < length l → drop i l ≡ getD l i 0 ∷ (getD l (suc i) 0 ∷ drop (suc (suc i)) l)
 pair-then-rest l i h = drop-cons l i 0 (omega (arith, h)) ∙ ap (λ (r : List ℕ). getD l i 0 ∷ r) (drop-cons l (suc i) 0 (omega (arith, h)))
 
-pairs-cut : (l : List ℕ) (i end : ℕ) → i + 1 < length l → end ≡ i + sizeOf (getD l i 0)
+pairs-cut : (l : List ℕ) (i end size : ℕ) → i + 1 < length l → size ≡ kindSize (getD l i 0) → size ≤ 2 → end ≡ i + size
     → pairsOf (drop i l) ≡ take (end - i) (drop i l) ∷ pairsOf (drop (i + 2) l)
-pairs-cut l i end h e =
+pairs-cut l i end size h is few e =
     let k = getD l i 0 in
+    let b = getD l (suc i) 0 in
+    let rest = drop (suc (suc i)) l in
     let there = pair-then-rest l i h in
-    let size : end - i ≡ sizeOf k = omega (arith, e) in
+    let cut : end - i ≡ size = omega (arith, e) in
     let two : suc (suc i) ≡ i + 2 = omega arith in
-    ap pairsOf there
-    ∙ ap (λ (x : List ℕ). x ∷ pairsOf (drop (suc (suc i)) l)) (sym (taken k (getD l (suc i) 0) (drop (suc (suc i)) l)) ∙ ap (take (sizeOf k)) (sym there) ∙ ap (λ (n : ℕ). take n (drop i l)) (sym size))
-    ∙ ap (λ (n : ℕ). take (end - i) (drop i l) ∷ pairsOf (drop n l)) two
+    let event : take (kindSize k) (k ∷ b ∷ []) ≡ take (end - i) (drop i l) =
+    ap (λ (n : ℕ). take n (k ∷ b ∷ [])) (sym is ∙ sym cut)
+    ∙ sym (taken (end - i) k b rest (omega (arith, few, cut)))
+    ∙ ap (take (end - i)) (sym there) in
+    ap pairsOf there ∙ ap₂ (λ (x : List ℕ) (n : ℕ). x ∷ pairsOf (drop n l)) event two
 
-pub one-pair : (c : Core) (l : Lent) (pairs : List ℕ) (i end : ℕ) (r : Turn) (l′ : Lent) → i + 1 < length pairs → end ≡ i + sizeOf (getD pairs i 0)
-    → Steps c l (take (end - i) (drop i pairs)) r l′
+pub one-pair : (c : Core) (l : Lent) (pairs : List ℕ) (i end size : ℕ) (r : Turn) (l′ : Lent) → i + 1 < length pairs
+    → size ≡ kindSize (getD pairs i 0) → size ≤ 2 → end ≡ i + size → Steps c l (take (end - i) (drop i pairs)) r l′
     → run (world (r .core) l′) (pairsOf (drop (i + 2) pairs)) ≡ run (world c l) (pairsOf (drop i pairs))
-one-pair c l pairs i end r l′ h e p =
-    steps-go-on c l (take (end - i) (drop i pairs)) r l′ p .run-on (pairsOf (drop (i + 2) pairs)) ∙ sym (ap (run (world c l)) (pairs-cut pairs i end h e))
+one-pair c l pairs i end size r l′ h is few e p = loop-goes-on c l _ r l′ _ _ p (pairs-cut pairs i end size h is few e) .run-on
 
 -- less than a pair is no event
 none-left : (m : List ℕ) → length m ≤ 1 → pairsOf m ≡ []

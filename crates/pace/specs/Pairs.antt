@@ -1,21 +1,16 @@
 -- Pairs of bytes as events, and what a fresh unit makes of them.
 use Prim.Native.Nat.{ℕ}
 use mathlib.Core.Path.{_≡_}
-use mathlib.Core.Bool.{_&&_}
 use mathlib.Core.List.{List, [], _∷_}
-use lib.Dec.{leb}
 use lib.ListN.{take}
-use Rattle.tape.specs.Choice.{pick}
+use Rattle.trace.specs.Cut.{kindSize}
 use Rattle.rules.specs.Run.{World, run, freshWorld}
 
--- A kind without a body, 03 to 06, is an event by itself; any other has its body behind it.
-unfoldable pub sizeOf : ℕ → ℕ
-sizeOf kind = pick (leb 3 kind && leb kind 6) 1 2
-
+-- Each pair is an event of as many bytes as its kind has; an unknown kind is none.
 abbrev pub pairsOf : List ℕ → List (List ℕ)
 pairsOf [] = []
 pairsOf (kind ∷ []) = []
-pairsOf (kind ∷ (body ∷ l)) = take (sizeOf kind) (kind ∷ body ∷ []) ∷ pairsOf l
+pairsOf (kind ∷ (body ∷ l)) = take (kindSize kind) (kind ∷ body ∷ []) ∷ pairsOf l
 
 -- The four tapes and the selected drive after a fresh unit ran them all.
 abbrev pub after : List ℕ → List ℕ → List ℕ → List ℕ → List ℕ → World

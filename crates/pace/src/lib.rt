@@ -1,22 +1,14 @@
 // Loops over the step, for a program in C that takes their time.
-ghost use Prim.Native.Nat.{_≤_};
 ghost use mathlib.Core.Path.{_≡_};
 ghost use Rattle.rules.specs.Unit.{lent};
 ghost use Rattle.rules.specs.Run.{world, run};
-ghost use Rattle.pace.specs.Pairs.{sizeOf, pairsOf, Paced};
+ghost use Rattle.pace.specs.Pairs.{pairsOf, Paced};
 use rules::Core;
 use rules::Unit;
 use tape::BODY;
+use trace::kind_size;
 
-// The kinds without a body, 03 to 06, are events of one byte.
-fn size_of(kind: u8) -> usize
-    ensures { λ r. ⌜ r ≡ sizeOf kind ⌝ }
-    ensures { λ r. ⌜ (1 ≤ r) × (r ≤ 2) ⌝ }
-{
-    if (3 <= kind) & (kind <= 6) { 1 } else { 2 }
-}
-
-// Each pair of bytes as one event, on a core with its staging block lent.
+// Each pair of bytes as one event of its kind's size, on a core with its staging block lent.
 fn run_core(
     core: Core,
     staging: &mut [u8; BODY],
@@ -31,7 +23,7 @@ fn run_core(
     let mut after = core;
     let mut i = 0;
     while i + 1 < pairs.len() {
-        let end = i + size_of(pairs[i]);
+        let end = i + kind_size(pairs[i]);
         let turn = unit::step_core(after, staging, tape0, tape1, tape2, tape3, &pairs[i..end]);
         after = turn.core;
         i += 2;
@@ -53,7 +45,7 @@ fn run_unit(
     let mut after = whole;
     let mut i = 0;
     while i + 1 < pairs.len() {
-        let end = i + size_of(pairs[i]);
+        let end = i + kind_size(pairs[i]);
         let outcome = unit::step(after, tape0, tape1, tape2, tape3, &pairs[i..end]);
         after = outcome.unit;
         i += 2;

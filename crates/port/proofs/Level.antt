@@ -1,7 +1,7 @@
 -- ONLINE dropped: which of its rules two tests choose, and what the mode says.
 use mathlib.Core.Path.{_≡_, refl}
 use mathlib.Core.Bool.{Bool, true, false, _&&_}
-use Rattle.tape.specs.Choice.{pick}
+use Rattle.basis.specs.Choice.{pick}
 use Rattle.rules.specs.declared.drive.Mode.{Mode}
 use Rattle.rules.specs.declared.drive.Mode.the-variants.{Idle, Writing, Reading}
 use Rattle.rules.specs.Drive.{isWriting}

@@ -1,5 +1,4 @@
 pub mod Answers
-mod Octet
 mod Tested
 mod Made
 pub mod Whole

@@ -6,7 +6,7 @@ use mathlib.Core.List.{List}
 use lib.ListN.{length}
 use borrow.Author.Tests.{le-leb, lt-leb}
 use Rattle.tape.specs.declared.record.Made.the-variants.{Next, NoRoom}
-use Rattle.tape.specs.Choice.{pick}
+use Rattle.basis.specs.Choice.{pick}
 use Rattle.tape.specs.Record.{blockSize, blockRecord}
 use Rattle.tape.specs.Recording.{written, blockWritten}
 use Rattle.tape.proofs.Answers.{next-means, no-room-means}

@@ -2,7 +2,7 @@
 use Prim.Native.Nat.{ℕ}
 use mathlib.Core.Path.{_≡_, refl}
 use mathlib.Core.Bool.{Bool, true, false}
-use Rattle.tape.specs.Choice.{pick}
+use Rattle.basis.specs.Choice.{pick}
 use Rattle.rules.specs.declared.drive.Drive.{Drive}
 use Rattle.rules.specs.declared.order.Fault.the-variants.{Fine}
 use Rattle.rules.specs.declared.order.Needs.{Needs}

@@ -1,6 +1,6 @@
 // The edge check, and what passing records comes to.
 ghost use mathlib.Core.Path.{_≡_};
-ghost use Rattle.rules.specs.Edge.{isBlock, halted, checked, searched};
+ghost use Rattle.rules.specs.Edge.{isBlock, halted, checked, standing};
 use rules::Bit;
 use rules::Checked;
 use rules::Drive;
@@ -60,8 +60,8 @@ pub fn check(drive: Drive, tape: &[u8]) -> Checked
 }
 
 // READ FILE MARK: past the next mark FIL; at end of data or at a bad record as above, head there.
-pub(crate) fn search(drive: Drive, passed: Passed) -> Drive
-    ensures { λ r. ⌜ r ≡ searched passed drive ⌝ }
+pub(crate) fn stand_where(drive: Drive, passed: Passed) -> Drive
+    ensures { λ r. ⌜ r ≡ standing passed drive ⌝ }
 {
     match passed {
         Passed::Past(at) => drive.pass_to(at).stop(Bit::Fil),

@@ -5,19 +5,19 @@ ghost use mathlib.Core.List.{List};
 ghost use Prim.Native.Nat.{ℕ, _+_};
 ghost use lib.Dec.{leb};
 ghost use lib.ListN.{length};
-ghost use Rattle.tape.specs.Choice.{pick};
+ghost use Rattle.basis.specs.Choice.{pick};
 ghost use Rattle.rules.specs.declared.order.Order.the-variants.{Erase, WriteMark, Read, ReadMark, ReadStatus};
 ghost use Rattle.rules.specs.declared.order.Fault.the-variants.{Fine, Full};
 ghost use Rattle.rules.specs.Order.{orderOf, needsOf, markRoom, hasRoom};
 ghost use Rattle.rules.specs.Effect.{seat, acted, ordered, faultOf, commanded};
 use crate::edge::check;
-use crate::edge::search;
+use crate::edge::stand_where;
 use crate::moved::leaves;
 use crate::moved::rests;
-use crate::order::fault_of;
-use crate::order::needs_of;
-use crate::order::order_of;
-use crate::report::octets;
+use orders::fault_of;
+use orders::needs_of;
+use orders::order_of;
+use report::octets;
 use rules::Bit;
 use rules::Drive;
 use rules::Fault;
@@ -62,7 +62,7 @@ fn read_mark(port: Port, drive: Drive, tape: &[u8]) -> Moved
     ensures { λ r. ⌜ acted r (now (tape .entry)) ≡ ordered (seat port drive (now (tape .entry))) ReadMark ⌝ }
 {
     let passed = pass_to_mark(tape, drive.head);
-    rests(true, port, search(drive, passed))
+    rests(true, port, stand_where(drive, passed))
 }
 
 // The six octets made, then the latched bits, both counters and EXCEPTION cleared.

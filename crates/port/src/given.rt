@@ -1,14 +1,15 @@
 // A byte given by the host.
 ghost use mathlib.Core.Path.{_≡_};
 ghost use Rattle.rules.specs.Effect.{seat, acted};
-ghost use Rattle.rules.specs.Bytes.{givenBefore, stagedByte, afterBlock, stored, gave};
+ghost use Rattle.rules.specs.Phase.{givenBefore};
+ghost use Rattle.rules.specs.Bytes.{stagedByte, afterBlock, stored, byteGiven};
 ghost use Rattle.rules.specs.Step.{staged};
-use crate::LAST;
 use crate::moved::leaves;
 use rules::Act;
 use rules::Bit;
 use rules::Drive;
 use rules::KEPT;
+use rules::LAST_PLACE;
 use rules::Moved;
 use rules::Phase;
 use rules::Port;
@@ -18,26 +19,14 @@ use tape::Made;
 use tape::has_room;
 use tape::record_block;
 
-// How many bytes of a block were given before.
-fn given_before(phase: Phase) -> usize
-    ensures { λ r. ⌜ r ≡ givenBefore phase ⌝ }
-{
-    match phase {
-        Phase::Rest => 0,
-        Phase::Taking(n) => n,
-        Phase::Giving(_) => 0,
-        Phase::Status(_) => 0,
-    }
-}
-
 // A byte staged at place n, counted from 0; the last place is 511.
 fn put(staging: &mut [u8; BODY], n: usize, byte: u8)
     ensures { λ _. ⌜ now (staging .exit) ≡ stagedByte n byte (now (staging .entry)) ⌝ }
 {
-    if n < LAST {
+    if n < LAST_PLACE {
         staging[n] = byte;
     } else {
-        staging[LAST] = byte;
+        staging[LAST_PLACE] = byte;
     }
 }
 
@@ -47,7 +36,7 @@ pub fn stage(staging: &mut [u8; BODY], phase: Phase, a: Act)
 {
     match a {
         Act::Command(_) => {}
-        Act::Give(byte) => put(staging, given_before(phase), byte),
+        Act::Give(byte) => put(staging, phase.given_before(), byte),
         Act::Take => {}
         Act::Online => {}
         Act::Offline => {}
@@ -78,11 +67,11 @@ fn store(port: Port, staging: &[u8; BODY], drive: Drive, tape: &mut [u8]) -> Mov
 
 // The byte is staged already. No tape byte changes before the 512th.
 pub fn give(port: Port, staging: &[u8; BODY], drive: Drive, tape: &mut [u8]) -> Moved
-    ensures { λ r. ⌜ acted r (now (tape .exit)) ≡ gave (now (staging .entry)) (seat port drive (now (tape .entry))) (givenBefore (port .phase)) ⌝ }
+    ensures { λ r. ⌜ acted r (now (tape .exit)) ≡ byteGiven (now (staging .entry)) (seat port drive (now (tape .entry))) (givenBefore (port .phase)) ⌝ }
 {
     let phase = port.phase;
-    let n = given_before(phase);
-    if n < LAST {
+    let n = phase.given_before();
+    if n < LAST_PLACE {
         return leaves(false, port.at_phase(Phase::Taking(n + 1)), drive);
     }
     store(port.at_phase(Phase::Rest), staging, drive, tape)

@@ -5,8 +5,6 @@ mod effect;
 mod given;
 mod moved;
 mod online;
-mod order;
-mod report;
 mod taken;
 
 pub use acts::act;
@@ -17,13 +15,4 @@ pub use given::give;
 pub use given::stage;
 pub use online::drop_online;
 pub use online::raise_online;
-pub use order::fault_of;
-pub use order::needs_of;
-pub use order::order_of;
-pub use report::octets;
-pub use taken::after_octet;
-pub use taken::next_octet;
 pub use taken::take;
-
-// The last place of a block's body, counted from 0.
-pub(crate) const LAST: usize = tape::BODY - 1;

@@ -1,7 +1,7 @@
 // What an act hands back.
 ghost use mathlib.Core.Path.{_≡_};
 ghost use mathlib.Core.Bool.{true, false};
-ghost use Rattle.rules.specs.declared.unit.Phase.the-variants.{Rest};
+ghost use Rattle.rules.specs.declared.phase.Phase.the-variants.{Rest};
 ghost use Rattle.rules.specs.Unit.{atPhase};
 use rules::Drive;
 use rules::Moved;

@@ -1,22 +1,23 @@
 // A byte taken by the host.
 ghost use mathlib.Core.Path.{_≡_};
 ghost use mathlib.Core.List.{List};
-ghost use Prim.Native.Nat.{ℕ, _+_, _≤_, _<_};
-ghost use lib.ListN.{length, getD};
+ghost use Prim.Native.Nat.{ℕ, _+_, _≤_};
+ghost use lib.ListN.{length};
 ghost use Rattle.tape.specs.Record.{foundAt, blockSize};
 ghost use Rattle.rules.specs.Edge.{isBlock, checked};
 ghost use Rattle.rules.specs.Effect.{seat, acted};
-ghost use Rattle.rules.specs.Bytes.{handed, firstTaken, nextTaken, octetPlace, afterOctet, octetTaken, took};
-use crate::LAST;
+ghost use Rattle.rules.specs.Bytes.{handed, firstTaken, nextTaken, octetTaken, byteTaken};
 use crate::edge::check;
 use crate::edge::is_block;
 use crate::moved::hands;
 use crate::moved::leaves;
 use crate::moved::rests;
+use report::after_octet;
+use report::next_octet;
 use rules::Bit;
 use rules::Drive;
+use rules::LAST_PLACE;
 use rules::Moved;
-use rules::OCTETS;
 use rules::Phase;
 use rules::Port;
 use tape::BLOCK_SIZE;
@@ -29,7 +30,7 @@ fn hand(port: Port, drive: Drive, tape: &[u8], n: usize) -> Moved
     ensures { λ r. ⌜ acted r (now (tape .entry)) ≡ handed (seat port drive (now (tape .entry))) n ⌝ }
 {
     let head = drive.head;
-    if n < LAST {
+    if n < LAST_PLACE {
         return hands(
             false,
             tape[head + 1 + n],
@@ -72,36 +73,6 @@ fn take_next(port: Port, drive: Drive, tape: &[u8], n: usize) -> Moved
     }
 }
 
-// The place of the next octet where k are outstanding.
-fn octet_place(k: usize) -> usize
-    ensures { λ r. ⌜ (r ≡ octetPlace k) × (r < 6) ⌝ }
-{
-    if k <= 1 {
-        return OCTETS - 1;
-    }
-    if k <= OCTETS { OCTETS - k } else { 0 }
-}
-
-// After the sixth, Rest.
-pub fn after_octet(k: usize) -> Phase
-    ensures { λ r. ⌜ r ≡ afterOctet k ⌝ }
-{
-    if k <= 1 {
-        Phase::Rest
-    } else {
-        Phase::Status(k - 1)
-    }
-}
-
-// The next octet of the report, where k are outstanding.
-pub fn next_octet(port: Port, k: usize) -> u8
-    ensures { λ r. ⌜ r ≡ getD (port .octets) (octetPlace k) 0 ⌝ }
-{
-    let octets = port.octets;
-    let i = octet_place(k);
-    octets[i]
-}
-
 // It goes out, and the one behind it is next.
 fn take_octet(port: Port, drive: Drive, k: usize) -> Moved
     ensures { λ r. ⌜ ((t : List ℕ) → acted r t ≡ octetTaken (seat port drive t) k) ⌝ }
@@ -116,7 +87,7 @@ fn take_octet(port: Port, drive: Drive, k: usize) -> Moved
 
 // At Rest the first byte of a block, inside one its next byte, in Status the next octet.
 pub fn take(port: Port, drive: Drive, tape: &[u8]) -> Moved
-    ensures { λ r. ⌜ acted r (now (tape .entry)) ≡ took (seat port drive (now (tape .entry))) (port .phase) ⌝ }
+    ensures { λ r. ⌜ acted r (now (tape .entry)) ≡ byteTaken (seat port drive (now (tape .entry))) (port .phase) ⌝ }
 {
     let phase = port.phase;
     match phase {

@@ -7,7 +7,7 @@ use native.Mathlib.Omega.{arith}
 use lib.Dec.{ltb, leb, eqb}
 use lib.ListN.{length, getD}
 use borrow.Author.Tests.{leb-true, leb-false, ltb-true, ltb-false}
-use Rattle.tape.specs.Choice.{pick}
+use Rattle.basis.specs.Choice.{pick}
 use Rattle.tape.specs.declared.found.Found.{Found}
 use Rattle.tape.specs.declared.found.Found.the-variants.{Block, Mark, Stop}
 use Rattle.tape.specs.Record.{foundAt}
@@ -18,8 +18,8 @@ use Rattle.rules.specs.declared.drive.Mode.{Mode}
 use Rattle.rules.specs.declared.drive.Mode.the-variants.{Idle, Writing, Reading}
 use Rattle.rules.specs.declared.drive.Bit.{Bit}
 use Rattle.rules.specs.declared.drive.Bit.the-variants.{Cni, Eom, Ude, Ill}
-use Rattle.rules.specs.declared.unit.Phase.{Phase}
-use Rattle.rules.specs.declared.unit.Phase.the-variants.{Rest, Taking, Giving, Status}
+use Rattle.rules.specs.declared.phase.Phase.{Phase}
+use Rattle.rules.specs.declared.phase.Phase.the-variants.{Rest, Taking, Giving, Status}
 use Rattle.rules.specs.declared.event.Act.{Act}
 use Rattle.rules.specs.declared.event.Act.the-variants.{Command, Give, Take, Online, Offline}
 use Rattle.rules.specs.declared.order.Order.{Order}
@@ -30,13 +30,14 @@ use Rattle.rules.specs.Drive.{isWriting, isReading, writes, reads, rewou
 use Rattle.rules.specs.Unit.{atPhase, atDrive, atLevel, showing}
 use Rattle.rules.specs.Refusal.{possiblePhase, takes, gives, inStepAt}
 use Rattle.rules.specs.Order.{orderOf, needsOf, test5, test6, hasRoom, illegal, firstFault, faultBy}
-use Rattle.rules.specs.Edge.{isBlock, checked, searched}
+use Rattle.rules.specs.Edge.{isBlock, checked, standing}
 use Rattle.rules.specs.Octets.{octetsOf}
 use Rattle.rules.specs.Effect.{Seat, Acted, leaves, hands, withMark, withBlock, resting, ordered, faultOf, commanded}
-use Rattle.rules.specs.Bytes.{givenBefore, roomToWrite, afterBlock, stored, gave, handed, firstTaken, nextTaken, octetPlace, afterOctet, octetTaken, took}
+use Rattle.rules.specs.Phase.{givenBefore}
+use Rattle.rules.specs.Bytes.{roomToWrite, afterBlock, stored, byteGiven, handed, firstTaken, nextTaken, octetPlace, afterOctet, octetTaken, byteTaken}
 use Rattle.rules.specs.Online.{levelled, leftAlone, leaving, dropped}
 use Rattle.rules.specs.Step.{act}
-use Rattle.rules.proofs.Bools.{both, not-not}
+use Rattle.basis.proofs.Choosing.{both, not-not}
 use Rattle.rules.proofs.Sound.{SoundSeat}
 use Rattle.rules.proofs.Codes.{select-real, erase-code, status-code}
 
@@ -57,7 +58,7 @@ pub data Does (g : List ℕ) (s : Seat) : Act → Acted → Type 0 where
       → Does g s (Command c) (leaves false (resting s) (inMode Idle (made (s .drive .head + 1) (s .drive))) (withMark (s .drive) (s .tape)))
   sets-reading : (c : ℕ) → Passes s Read
       → Does g s (Command c) (leaves (checked (s .tape) (inMode Reading (s .drive)) .raised) (resting s) (checked (s .tape) (inMode Reading (s .drive)) .drive) (s .tape))
-  searches : (c : ℕ) → Does g s (Command c) (leaves true (resting s) (searched (passed (s .tape) (s .drive .head)) (s .drive)) (s .tape))
+  searches : (c : ℕ) → Does g s (Command c) (leaves true (resting s) (standing (passed (s .tape) (s .drive .head)) (s .drive)) (s .tape))
   reports : Does g s (Command 192) (leaves false (showing (octetsOf (s .drive)) (s .port)) (cleared (s .drive)) (s .tape))
   -- tests 1 to 7
   faults : (c : ℕ) (b : Bit) → Does g s (Command c) (leaves true (resting s) (latching b (s .drive)) (s .tape))
@@ -152,7 +153,7 @@ module _ (g : List ℕ) (s : Seat) (ok : SoundSeat s) where
   commanded-does c o e Plugged h = meets-plug c
   commanded-does c o e Full h = finds-no-room c
 
-  gave-does : (b n : ℕ) → s .drive .mode ≡ Writing → Does g s (Give b) (gave g s n)
+  gave-does : (b n : ℕ) → s .drive .mode ≡ Writing → Does g s (Give b) (byteGiven g s n)
   unfolding stored afterBlock
   gave-does b n w =
       by-test (ltb n 511) (λ h. stages b n (omega (arith, ltb-true n 511 h)) w)
@@ -166,7 +167,7 @@ module _ (g : List ℕ) (s : Seat) (ok : SoundSeat s) where
       by-test (ltb n 511) (λ h. hands-byte n (omega (arith, ltb-true n 511 h)) w e)
       (λ h. hands-last (q (omega (arith, ltb-false n 511 h))) w e)
 
-  took-does : (ph : Phase) → s .port .phase ≡ ph → possiblePhase ph (s .drive .mode) ≡ true → gives ph (reads (s .drive)) ≡ true → Does g s Take (took s ph)
+  took-does : (ph : Phase) → s .port .phase ≡ ph → possiblePhase ph (s .drive .mode) ≡ true → gives ph (reads (s .drive)) ≡ true → Does g s Take (byteTaken s ph)
   unfolding octetTaken possiblePhase
   took-does Rest e k h =
       let w = reading-is (s .drive .mode) (both (isReading (s .drive .mode)) (not (s .drive .exception)) h .0) in

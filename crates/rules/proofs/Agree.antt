@@ -9,12 +9,12 @@ use lib.Dec.{ltb, leb}
 use lib.ListN.{length, getD, set, take, replicate, length-set}
 use lib.Seq.{take-suc-set, take-all}
 use borrow.Author.Tests.{ltb-false}
-use Rattle.tape.specs.Choice.{pick}
+use Rattle.basis.specs.Choice.{pick}
 use Rattle.tape.specs.Record.{foundAt}
 use Rattle.rules.specs.declared.drive.Mode.{Mode}
 use Rattle.rules.specs.declared.drive.Mode.the-variants.{Idle, Writing, Reading}
-use Rattle.rules.specs.declared.unit.Phase.{Phase}
-use Rattle.rules.specs.declared.unit.Phase.the-variants.{Rest, Taking, Giving, Status}
+use Rattle.rules.specs.declared.phase.Phase.{Phase}
+use Rattle.rules.specs.declared.phase.Phase.the-variants.{Rest, Taking, Giving, Status}
 use Rattle.rules.specs.declared.event.Act.{Act}
 use Rattle.rules.specs.declared.event.Act.the-variants.{Command, Give, Take, Online, Offline}
 use Rattle.rules.specs.declared.order.Order.{Order}
@@ -28,7 +28,8 @@ use Rattle.rules.specs.Refusal.{gives, inStepAt}
 use Rattle.rules.specs.Order.{orderOf}
 use Rattle.rules.specs.Edge.{isBlock, checked}
 use Rattle.rules.specs.Effect.{Seat, seat, Acted, leaves, hands, resting, ordered, faultOf, commanded}
-use Rattle.rules.specs.Bytes.{givenBefore, placeOf, stagedByte, roomToWrite, afterBlock, stored, gave, handed, firstTaken, nextTaken, octetPlace, octetTaken, took}
+use Rattle.rules.specs.Phase.{givenBefore}
+use Rattle.rules.specs.Bytes.{placeOf, stagedByte, roomToWrite, afterBlock, stored, byteGiven, handed, firstTaken, nextTaken, octetPlace, octetTaken, byteTaken}
 use Rattle.rules.specs.Online.{leaving, dropped}
 use Rattle.rules.specs.Step.{act, staged}
 use Rattle.rules.specs.Promises.Demand3.{octetsIn}
@@ -98,7 +99,7 @@ module _ (s : Seat) (g g′ : List ℕ) where
       same refl refl (ap (λ (o : List ℕ). getD o (octetPlace k) 0) e)
       (ap (λ (o : List ℕ). record { selected = s .port .selected; online = s .port .online; phase = Status (k - 1); octets = o }) e) refl refl refl
 
-  took-agree : (ph : Phase) → s .port .phase ≡ ph → gives ph (reads (s .drive)) ≡ true → Agree g g′ (took s ph) (took (seen s) ph)
+  took-agree : (ph : Phase) → s .port .phase ≡ ph → gives ph (reads (s .drive)) ≡ true → Agree g g′ (byteTaken s ph) (byteTaken (seen s) ph)
   unfolding octetTaken
   took-agree Rest e h = first-agree (checked (s .tape) (s .drive))
   took-agree (Taking n) e h = absurd (false≢true h)
@@ -151,7 +152,7 @@ module _ (s : Seat) (ok : SoundSeat s) (g : List ℕ) (whole : length g ≡ 512)
   cut = stagingIn (s .port .phase) g
 
   gave-agree : (n b : ℕ) → n ≤ 511 → take n g ≡ take n cut → length cut ≡ 512
-      → Agree (set g (placeOf n) b) (set cut (placeOf n) b) (gave (set g (placeOf n) b) s n) (gave (set cut (placeOf n) b) (seen s) n)
+      → Agree (set g (placeOf n) b) (set cut (placeOf n) b) (byteGiven (set g (placeOf n) b) s n) (byteGiven (set cut (placeOf n) b) (seen s) n)
   unfolding pick
   gave-agree n b h e w = go (ltb n 511) refl
     where

@@ -6,10 +6,10 @@ use mathlib.Core.List.{List, [], _∷_, _++_}
 use mathlib.Core.Option.{Option, none, some}
 use lib.Dec.{eqb}
 use lib.ListN.{length, take, replicate, length-replicate}
-use Rattle.tape.specs.Choice.{pick}
+use Rattle.basis.specs.Choice.{pick}
 use Rattle.rules.specs.declared.drive.Drive.{Drive}
-use Rattle.rules.specs.declared.unit.Phase.{Phase}
-use Rattle.rules.specs.declared.unit.Phase.the-variants.{Rest, Taking, Giving, Status}
+use Rattle.rules.specs.declared.phase.Phase.{Phase}
+use Rattle.rules.specs.declared.phase.Phase.the-variants.{Rest, Taking, Giving, Status}
 use Rattle.rules.specs.declared.unit.Port.{Port}
 use Rattle.rules.specs.declared.unit.Core.{Core}
 use Rattle.rules.specs.declared.answer.Answer.{Answer}
@@ -20,10 +20,10 @@ use Rattle.rules.specs.declared.event.Event.the-variants.{NoEvent, Reset
 use Rattle.rules.specs.Unit.{Lent, driveAt, tapeAt, freshCore}
 use Rattle.rules.specs.Event.{eventOf}
 use Rattle.rules.specs.Refusal.{short, refusalIn}
-use Rattle.rules.specs.Bytes.{givenBefore}
+use Rattle.rules.specs.Phase.{givenBefore}
 use Rattle.rules.specs.Step.{Stepped, settled, stepOf}
 use Rattle.rules.specs.Run.{World, world, after, run, turnOf, freshWorld}
-use Rattle.rules.specs.Reach.{Reading, realChange, anyLevel, changes, selects, answered, accepted, reachesBy, reaches, Shown, Gave, gaveBy, gave, keptIf, reached, given}
+use Rattle.rules.specs.Reach.{Change, realChange, anyLevel, changes, selects, answered, accepted, reachesBy, reaches, Shown, Gave, gaveBy, gave, onlyIf, reached, given}
 use Rattle.rules.specs.Promises.Demand3.{Pending, octetsIn, pending, Alike, SameFate, Demand3For, Demand3, Demand3AnyLevel, OthersDoNotMatter}
 use Rattle.rules.proofs.Sound.{Sound, sound}
 use Rattle.rules.proofs.Codes.{named-real}
@@ -37,7 +37,7 @@ use Rattle.rules.proofs.Sim
 
 module _ (d : ℕ) (d3 : d ≤ 3) (w : World) (k : Sound (w .core) (w .lent)) (e : List ℕ) where
   -- it reaches d: to d it is as in the world that d sees
-  follow : (r : Reading) → reaches r d w e ≡ true → (look d (after w e) ≡ look d (after (look d w) e)) × (gave d w e ≡ gave d (look d w) e)
+  follow : (r : Change) → reaches r d w e ≡ true → (look d (after w e) ≡ look d (after (look d w) e)) × (gave d w e ≡ gave d (look d w) e)
   unfolding reaches after gave turnOf
   follow r h =
       subst (λ (x : Stepped). Pair x (stepOf (look d w .core) (look d w .lent) e)) (sym (step-is (w .core) (w .lent) e k))
@@ -73,7 +73,7 @@ sightGave d v [] = []
 sightGave d v (e ∷ es) = gave d v e ∷ sightGave d (look d (after v e)) es
 
 -- a real change counts in either reading
-real-counts : (r : Reading) (a : Act) (level : Bool) → changes realChange a level ≡ true → changes r a level ≡ true
+real-counts : (r : Change) (a : Act) (level : Bool) → changes realChange a level ≡ true → changes r a level ≡ true
 real-counts realChange a level h = h
 real-counts anyLevel (Command c) level h = h
 real-counts anyLevel (Give b) level h = h
@@ -89,7 +89,7 @@ fewer false true false true y f h = absurd (false≢true (f refl))
 fewer false true false false y f h = h
 
 -- an event that the stronger reading leaves out is left out by the other, or changes nothing that d sees
-strong : (r : Reading) (d : ℕ) (w : World) (e : List ℕ) → reaches r d w e ≡ false → reaches realChange d w e ≡ false
+strong : (r : Change) (d : ℕ) (w : World) (e : List ℕ) → reaches r d w e ≡ false → reaches realChange d w e ≡ false
 unfolding reaches
 strong r d w e h = go (eventOf e) h
   where
@@ -103,7 +103,7 @@ strong r d w e h = go (eventOf e) h
     go (Own a) h =
         fewer (eqb (w .core .port .selected) d) (answered x) (changes r a (w .core .port .online)) (changes realChange a (w .core .port .online)) (accepted x && selects d a) (real-counts r a (w .core .port .online)) h
 
-record Follows (r : Reading) (d : ℕ) (w : World) (es : List (List ℕ)) : Type 0 where
+record Follows (r : Change) (d : ℕ) (w : World) (es : List (List ℕ)) : Type 0 where
   ends : look d (run w es) ≡ sightRun d (look d w) (reached r d w es)
   tells : given r d w es ≡ sightGave d (look d w) (reached r d w es)
 
@@ -111,7 +111,7 @@ after-sound : (w : World) (e : List ℕ) → Sound (w .core) (w .lent) → Sound
 unfolding after
 after-sound w e k = step-stays-sound (w .core) (w .lent) e k
 
-follows : (r : Reading) (d : ℕ) → d ≤ 3 → (es : List (List ℕ)) (w : World) → Sound (w .core) (w .lent) → Follows r d w es
+follows : (r : Change) (d : ℕ) → d ≤ 3 → (es : List (List ℕ)) (w : World) → Sound (w .core) (w .lent) → Follows r d w es
 unfolding sightRun sightGave
 follows r d d3 [] w k = record { ends = refl; tells = refl }
 follows r d d3 (e ∷ es) w k = let x = go (reaches r d w e) refl (follows r d d3 es (after w e) (after-sound w e k)) in record { ends = x .0; tells = x .1 }
@@ -120,7 +120,7 @@ follows r d d3 (e ∷ es) w k = let x = go (reaches r d w e) refl (follows r d d
     rest = reached r d (after w e) es
 
     go : (b : Bool) → reaches r d w e ≡ b → Follows r d (after w e) es
-        → (look d (run (after w e) es) ≡ sightRun d (look d w) (keptIf b e rest)) × (keptIf b (gave d w e) (given r d (after w e) es) ≡ sightGave d (look d w) (keptIf b e rest))
+        → (look d (run (after w e) es) ≡ sightRun d (look d w) (onlyIf b e rest)) × (onlyIf b (gave d w e) (given r d (after w e) es) ≡ sightGave d (look d w) (onlyIf b e rest))
     go true h ih =
         let f = follow d d3 w k e r h in
         (ih .ends ∙ ap (λ (v : World). sightRun d v rest) (f .0), ap₂ (λ (x : Gave) (y : List Gave). x ∷ y) (f .1) (ih .tells ∙ ap (λ (v : World). sightGave d v rest) (f .0)))
@@ -162,7 +162,7 @@ run-sound [] w k = k
 run-sound (e ∷ es) w k = run-sound es (after w e) (after-sound w e k)
 
 -- the general form: any two sound worlds that d sees alike
-same-fate : (r : Reading) (d : ℕ) → d ≤ 3 → (w w′ : World) → Sound (w .core) (w .lent) → Sound (w′ .core) (w′ .lent) → look d w ≡ look d w′ → (es es′ : List (List ℕ))
+same-fate : (r : Change) (d : ℕ) → d ≤ 3 → (w w′ : World) → Sound (w .core) (w .lent) → Sound (w′ .core) (w′ .lent) → look d w ≡ look d w′ → (es es′ : List (List ℕ))
     → reached r d w es ≡ reached r d w′ es′ → SameFate r d w w′ es es′
 same-fate r d d3 w w′ k k′ e es es′ q =
     let f = follows r d d3 es w k in
@@ -178,7 +178,7 @@ fresh-sound a b c e h = sound freshCore (freshWorld a b c e .lent) fresh-is-poss
 fresh-look : (d : ℕ) → d ≤ 3 → (a b c e a′ b′ c′ e′ : List ℕ) → tapeAt (freshWorld a b c e .lent) d ≡ tapeAt (freshWorld a′ b′ c′ e′ .lent) d → look d (freshWorld a b c e) ≡ look d (freshWorld a′ b′ c′ e′)
 fresh-look d d3 a b c e a′ b′ c′ e′ q = rw q
 
-demand-3-for : (r : Reading) → Demand3For r
+demand-3-for : (r : Change) → Demand3For r
 demand-3-for r d d3 a b c e a′ b′ c′ e′ h h′ q es es′ s =
     same-fate r d d3 (freshWorld a b c e) (freshWorld a′ b′ c′ e′) (fresh-sound a b c e h) (fresh-sound a′ b′ c′ e′ h′) (fresh-look d d3 a b c e a′ b′ c′ e′ q) es es′ s
 

@@ -7,14 +7,14 @@ use native.Mathlib.Omega.{arith}
 use lib.Dec.{leb}
 use lib.ListN.{length, length-replicate}
 use borrow.Author.Tests.{leb-true, leb-false, le-leb}
-use Rattle.tape.specs.Choice.{pick}
+use Rattle.basis.specs.Choice.{pick}
 use Rattle.tape.specs.declared.found.Found.{Found}
 use Rattle.tape.specs.declared.found.Found.the-variants.{Block, Mark, Stop}
 use Rattle.tape.specs.declared.found.Why.{Why}
 use Rattle.tape.specs.declared.found.Why.the-variants.{End, Unknown, Bad}
 use Rattle.tape.specs.declared.pass.Passed.{Passed}
 use Rattle.tape.specs.declared.pass.Passed.the-variants.{Past, Stopped}
-use Rattle.tape.specs.Record.{foundAt, markRecord, blockRecord}
+use Rattle.tape.specs.Record.{foundAt, markRecord, blockRecord, longest}
 use Rattle.tape.specs.Recording.{recorded}
 use Rattle.tape.specs.Walk.{passed, endOf}
 use Rattle.tape.proofs.Standing.{block-fits, mark-fits}
@@ -25,17 +25,17 @@ use Rattle.rules.specs.declared.drive.Mode.{Mode}
 use Rattle.rules.specs.declared.drive.Mode.the-variants.{Idle, Writing, Reading}
 use Rattle.rules.specs.declared.drive.Bit.{Bit}
 use Rattle.rules.specs.declared.drive.Bit.the-variants.{Eom, Ude, Fil, Ndt}
-use Rattle.rules.specs.declared.unit.Phase.{Phase}
-use Rattle.rules.specs.declared.unit.Phase.the-variants.{Rest, Taking, Giving, Status}
+use Rattle.rules.specs.declared.phase.Phase.{Phase}
+use Rattle.rules.specs.declared.phase.Phase.the-variants.{Rest, Taking, Giving, Status}
 use Rattle.rules.specs.declared.unit.Port.{Port}
 use Rattle.rules.specs.declared.event.Act.{Act}
 use Rattle.rules.specs.Drive.{isWriting, isReading, stopping, inMode, made, passedTo, setHead}
 use Rattle.rules.specs.Unit.{atPhase}
-use Rattle.rules.specs.Refusal.{longest, modeFits, possiblePhase}
-use Rattle.rules.specs.Edge.{halted, edged, checked, searched}
+use Rattle.rules.specs.Refusal.{modeFits, possiblePhase}
+use Rattle.rules.specs.Edge.{halted, edged, checked, standing}
 use Rattle.rules.specs.Effect.{Seat, Acted, leaves, resting}
 use Rattle.rules.specs.Bytes.{afterOctet}
-use Rattle.rules.proofs.Bools.{both, join, not-not}
+use Rattle.basis.proofs.Choosing.{both, join, not-not}
 use Rattle.rules.proofs.Sound.{Fit, SoundSeat, idle-fits}
 use Rattle.rules.proofs.Acts
 
@@ -75,9 +75,9 @@ checked-fit : (t : List ℕ) (d : Drive) → length t ≤ longest → Fit d → 
 unfolding checked
 checked-fit t d l f = edged-fit t d l f _ refl
 
-searched-fit : (r : Passed) (d : Drive) → Fit d → endOf r ≤ longest → Fit (searched r d)
-searched-fit (Past at) d f l = fit-stop Fil (passedTo at d) (fit-head d at f l)
-searched-fit (Stopped at w) d f l = halted-fit w (passedTo at d) (fit-head d at f l)
+standing-fit : (r : Passed) (d : Drive) → Fit d → endOf r ≤ longest → Fit (standing r d)
+standing-fit (Past at) d f l = fit-stop Fil (passedTo at d) (fit-head d at f l)
+standing-fit (Stopped at w) d f l = halted-fit w (passedTo at d) (fit-head d at f l)
 
 -- ---- the phase still goes with the mode
 
@@ -158,7 +158,7 @@ module _ (g : List ℕ) (w512 : length g ≡ 512) (s : Seat) (ok : SoundSeat s) 
   does-good a m (Acts.sets-reading c p) =
       quiet m refl refl refl (checked-fit (s .tape) (inMode Reading (s .drive)) (ok .near) (record { near = ok .fit .near; mode = not-not (s .drive .loaded) (p .cartridge) }))
   does-good a m (Acts.searches c) =
-      quiet m refl refl refl (searched-fit (passed (s .tape) (s .drive .head)) (s .drive) (ok .fit) (passed-within (s .tape) (s .drive .head) longest (ok .near) (ok .fit .near)))
+      quiet m refl refl refl (standing-fit (passed (s .tape) (s .drive .head)) (s .drive) (ok .fit) (passed-within (s .tape) (s .drive .head) longest (ok .near) (ok .fit .near)))
   does-good a m Acts.reports = record { fit = record { near = ok .fit .near; mode = ok .fit .mode }; long = refl; land = stays refl (six-fit (s .drive .mode)); plug = λ _. refl }
   does-good a m (Acts.faults c b) = quiet m refl refl refl (record { near = ok .fit .near; mode = ok .fit .mode })
   does-good a m (Acts.meets-plug c) = quiet m refl refl refl (record { near = ok .fit .near; mode = ok .fit .mode })

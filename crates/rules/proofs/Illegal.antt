@@ -5,7 +5,7 @@ use mathlib.Core.Logic.{_↔_}
 use mathlib.Core.Bool.{Bool, true, false, not, _&&_, _||_, true≢false, false≢true}
 use mathlib.Core.List.{List}
 use lib.ListN.{length}
-use Rattle.tape.specs.Choice.{pick}
+use Rattle.basis.specs.Choice.{pick}
 use Rattle.tape.specs.declared.found.Found.{Found}
 use Rattle.tape.specs.declared.found.Found.the-variants.{Block, Mark, Stop}
 use Rattle.tape.specs.declared.found.Why.{Why}
@@ -23,7 +23,7 @@ use Rattle.rules.specs.declared.order.Fault.{Fault}
 use Rattle.rules.specs.declared.order.Fault.the-variants.{Fine, Illegal, Empty, Plugged, Full}
 use Rattle.rules.specs.Drive.{inMode, passedTo}
 use Rattle.rules.specs.Order.{orderOf, needsOf, inSequence, test5, test6, hasRoom, illegal, firstFault, faultBy}
-use Rattle.rules.specs.Edge.{halted, edged, checked, searched}
+use Rattle.rules.specs.Edge.{halted, edged, checked, standing}
 use Rattle.rules.specs.Effect.{Seat, Acted, ordered, faultOf, commanded}
 use Rattle.rules.specs.Promises.Orders.{firstFour, IllegalExactly, OnlyIll, IllegalChangesNothing, LegalLatchesNoIll, StatusPasses}
 
@@ -60,7 +60,7 @@ checked-ill : (t : List ℕ) (d : Drive) → checked t d .drive .latched .ill �
 unfolding checked
 checked-ill t d = edged-ill (foundAt t (d .head)) d
 
-searched-ill : (r : Passed) (d : Drive) → searched r d .latched .ill ≡ d .latched .ill
+searched-ill : (r : Passed) (d : Drive) → standing r d .latched .ill ≡ d .latched .ill
 searched-ill (Past at) d = refl
 searched-ill (Stopped at w) d = halted-ill w (passedTo at d)
 

@@ -7,13 +7,13 @@ use native.Mathlib.Omega.{arith}
 use lib.Dec.{eqb}
 use lib.ListN.{length}
 use borrow.Author.Tests.{eqb-true, eqb-false, not-true}
-use Rattle.tape.specs.Choice.{pick}
+use Rattle.basis.specs.Choice.{pick}
 use Rattle.rules.specs.declared.drive.Drive.{Drive}
 use Rattle.rules.specs.declared.drive.Mode.{Mode}
 use Rattle.rules.specs.declared.drive.Mode.the-variants.{Idle, Writing, Reading}
 use Rattle.rules.specs.declared.unit.Core.{Core}
-use Rattle.rules.specs.declared.unit.Phase.{Phase}
-use Rattle.rules.specs.declared.unit.Phase.the-variants.{Rest, Taking, Giving, Status}
+use Rattle.rules.specs.declared.phase.Phase.{Phase}
+use Rattle.rules.specs.declared.phase.Phase.the-variants.{Rest, Taking, Giving, Status}
 use Rattle.rules.specs.declared.unit.Port.{Port}
 use Rattle.rules.specs.declared.event.Act.{Act}
 use Rattle.rules.specs.declared.event.What.{What}
@@ -24,7 +24,8 @@ use Rattle.rules.specs.declared.answer.Answer.the-variants.{Taken}
 use Rattle.rules.specs.Drive.{wasReset}
 use Rattle.rules.specs.Unit.{Lent, driveAt, putDrive, tapeAt, putTape, atPhase, freshCore, resetCore, Whole}
 use Rattle.rules.specs.Event.{eventOf}
-use Rattle.rules.specs.Refusal.{longest, modeFits, possibleDrive, possiblePhase, possible, slotFits, refusalIn}
+use Rattle.tape.specs.Record.{longest}
+use Rattle.rules.specs.Refusal.{modeFits, possibleDrive, possiblePhase, possible, slotAnswer, refusalIn}
 use Rattle.rules.specs.Effect.{Acted}
 use Rattle.rules.specs.Slot.{befallen, isOut, partDropped, phaseAfter}
 use Rattle.rules.specs.Step.{Stepped, act, stagedIn, seatOf, landed, effectOf, stepOf}
@@ -34,7 +35,7 @@ use Rattle.rules.proofs.Places.{four, put-same, put-other, put-holds, o
 use Rattle.rules.proofs.Sound.{Fit, Sound, idle-fits, sound-seat, sound-possible}
 use Rattle.rules.proofs.Codes.{named-real}
 use Rattle.rules.proofs.Good
-use Rattle.rules.proofs.StepBy.{slot-fits, sound-step, staged-sound, own-does}
+use Rattle.rules.proofs.StepBy.{slot-empty, sound-step, staged-sound, own-does}
 
 -- ---- the selected drive's act
 
@@ -80,8 +81,8 @@ empty-idle Writing false p e h = cc
 empty-idle Reading true p e h = cc
 empty-idle Reading false p e h = cc
 
-befallen-fit : (d : Drive) (w : What) → slotFits (d .loaded) w ≡ true → Fit d → Fit (befallen w d)
-befallen-fit d (In p) h f = record { near = zero-le; mode = rw (empty-idle (d .mode) (d .loaded) (d .protected) (not-true _ h) (f .mode)) }
+befallen-fit : (d : Drive) (w : What) → slotAnswer (d .loaded) w ≡ Taken → Fit d → Fit (befallen w d)
+befallen-fit d (In p) h f = record { near = zero-le; mode = rw (empty-idle (d .mode) (d .loaded) (d .protected) (slot-empty (d .loaded) h) (f .mode)) }
 befallen-fit d Out h f = record { near = zero-le; mode = refl }
 befallen-fit d Error h f = record { near = f .near; mode = f .mode }
 befallen-fit d Underrun h f = record { near = f .near; mode = f .mode }
@@ -104,7 +105,7 @@ away-phase Out ph = refl
 away-phase Error ph = refl
 away-phase Underrun ph = refl
 
-named-sound : (c : Core) (l : Lent) → Sound c l → (i : ℕ) (w : What) → i ≤ 3 → slotFits (driveAt c i .loaded) w ≡ true → Sound (effectOf c l (Named i w) .turn .core) l
+named-sound : (c : Core) (l : Lent) → Sound c l → (i : ℕ) (w : What) → i ≤ 3 → slotAnswer (driveAt c i .loaded) w ≡ Taken → Sound (effectOf c l (Named i w) .turn .core) l
 named-sound c l k i w r h = record { sel = k .sel; phase = go (eqb i n) refl; fit = fits; near = k .near; whole = k .whole }
   where
     n : ℕ
@@ -131,7 +132,7 @@ pub effect-sound : (c : Core) (l : Lent) (e : Event) → Sound c l → ((i : ℕ
     → Sound (effectOf c l e .turn .core) (effectOf c l e .lent)
 effect-sound c l NoEvent k r h = k
 effect-sound c l Reset k r h = reset-sound c l k
-effect-sound c l (Named i w) k r h = named-sound c l k i w (r i w refl) (slot-fits _ h)
+effect-sound c l (Named i w) k r h = named-sound c l k i w (r i w refl) h
 effect-sound c l (Own a) k r h =
     let k2 = staged-sound c l a k in
     landed-sound c (stagedIn c a l) _ k2 (Good.does-good (stagedIn c a l .staging) (k2 .whole) (seatOf c l) (sound-seat c l k) a _ (own-does c l a k h))

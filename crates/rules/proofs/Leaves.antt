@@ -19,12 +19,12 @@ use Rattle.rules.specs.declared.drive.Latched.{Latched}
 use Rattle.rules.specs.declared.drive.Mode.the-variants.{Reading}
 use Rattle.rules.specs.declared.drive.Bit.{Bit}
 use Rattle.rules.specs.declared.drive.Bit.the-variants.{Cni, Eom, Ude, Fil, Ill, Ndt, Por}
-use Rattle.rules.specs.declared.unit.Phase.the-variants.{Giving}
+use Rattle.rules.specs.declared.phase.Phase.the-variants.{Giving}
 use Rattle.rules.specs.declared.event.Act.{Act}
 use Rattle.rules.specs.declared.event.Act.the-variants.{Command, Take}
 use Rattle.rules.specs.declared.event.Event.the-variants.{Own}
 use Rattle.rules.specs.Drive.{withBit, latching, stopping, inMode, made, passedTo}
-use Rattle.rules.specs.Edge.{isBlock, halted, edged, checked, searched}
+use Rattle.rules.specs.Edge.{isBlock, halted, edged, checked, standing}
 use Rattle.rules.specs.Effect.{Seat, Acted}
 use Rattle.rules.specs.Promises.Status.{BitsStay, ReportStays}
 use Rattle.rules.specs.Promises.Plug.{Change, unchanged, erasedWhole, markMade, blockMade}
@@ -37,7 +37,7 @@ halted-up End d = refl
 halted-up Unknown d = refl
 halted-up Bad d = refl
 
-searched-up : (r : Passed) (d : Drive) → searched r d .exception ≡ true
+searched-up : (r : Passed) (d : Drive) → standing r d .exception ≡ true
 searched-up (Past at) d = refl
 searched-up (Stopped at w) d = halted-up w (passedTo at d)
 
@@ -97,7 +97,7 @@ halted-report End d h = report-more d _ Ndt refl refl refl
 halted-report Unknown d h = report-more d _ Ude refl refl refl
 halted-report Bad d h = report-more d _ Ude refl refl refl
 
-searched-report : (r : Passed) (d : Drive) → ReportStays d (searched r d)
+searched-report : (r : Passed) (d : Drive) → ReportStays d (standing r d)
 searched-report (Past at) d = report-more d _ Fil refl refl refl
 searched-report (Stopped at w) d = halted-report w d at
 

@@ -1,4 +1,5 @@
-pub mod Bools
+pub mod Phases
+pub mod Numbers
 pub mod Places
 pub mod Sound
 pub mod Codes
@@ -20,3 +21,4 @@ pub mod Agree
 pub mod Ports
 pub mod Sim
 pub mod Demand3
+pub mod Ran

@@ -2,11 +2,12 @@
 use Prim.Native.Nat.{ℕ, zero, suc, _≤_}
 use mathlib.Core.Path.{_≡_, refl}
 use mathlib.Core.Bool.{Bool, true, false}
+use mathlib.Core.List.{List}
 use native.Mathlib.Omega.{arith}
 use lib.Dec.{leb, eqb}
 use borrow.Author.Tests.{eqb-true, eqb-false, ne-eqb, le-leb}
-use Rattle.tape.specs.Choice.{pick}
-use Rattle.rules.specs.Unit.{oneOf, putAt, putLast}
+use Rattle.basis.specs.Choice.{pick}
+use Rattle.rules.specs.Unit.{Lent, lent, oneOf, putAt, putLast, tapeAt, putTape, putStaging}
 
 -- The numbers of the four drives.
 pub data Four : ℕ → Type 0 where
@@ -42,6 +43,19 @@ put-back f (suc zero) a b c d = refl
 put-back f (suc (suc zero)) a b c d = refl
 put-back f (suc (suc (suc n))) a b c d =
     let i = suc (suc (suc n)) in rw (ne-eqb i 0 (λ p. omega (arith, p)), ne-eqb i 1 (λ p. omega (arith, p)), ne-eqb i 2 (λ p. omega (arith, p)), le-leb 3 i (omega arith)) refl
+
+pub tape-back : (l : Lent) (i : ℕ) → putTape (putStaging l (l .staging)) i (tapeAt l i) ≡ l
+tape-back l i = put-back (lent (l .staging)) i (l .tape0) (l .tape1) (l .tape2) (l .tape3)
+
+-- A number that is none of 0, 1 and 2 means the last.
+pub last-one : {A : Type 0} (i : ℕ) (x y z w : A) → (i ≡ 0 → ⊥) → (i ≡ 1 → ⊥) → (i ≡ 2 → ⊥) → oneOf i x y z w ≡ w
+unfolding oneOf pick
+last-one i x y z w p q r = rw (ne-eqb i 0 p, ne-eqb i 1 q, ne-eqb i 2 r) refl
+
+pub last-tape : (l : Lent) (i : ℕ) (t : List ℕ) → (i ≡ 0 → ⊥) → (i ≡ 1 → ⊥) → (i ≡ 2 → ⊥)
+    → putTape l i t ≡ lent (l .staging) (l .tape0) (l .tape1) (l .tape2) t
+unfolding putAt putLast pick
+last-tape l i t p q r = rw (ne-eqb i 0 p, ne-eqb i 1 q, ne-eqb i 2 r, le-leb 3 i (omega (arith, p, q, r))) refl
 
 -- The other three are as they were.
 pub put-other : {A : Type 0} {i j : ℕ} (x a b c d : A) → Four i → Four j → (i ≡ j → ⊥)

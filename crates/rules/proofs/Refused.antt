@@ -3,9 +3,9 @@ use Prim.Native.Nat.{ℕ}
 use mathlib.Core.Path.{_≡_, refl, sym, ap, _∙_}
 use mathlib.Core.Bool.{Bool, true, false, false≢true}
 use mathlib.Core.List.{List}
-use Rattle.tape.specs.Choice.{pick}
+use Rattle.basis.specs.Choice.{pick}
 use Rattle.rules.specs.declared.unit.Core.{Core}
-use Rattle.rules.specs.declared.unit.Phase.the-variants.{Giving}
+use Rattle.rules.specs.declared.phase.Phase.the-variants.{Giving}
 use Rattle.rules.specs.declared.event.Act.{Act}
 use Rattle.rules.specs.declared.event.Act.the-variants.{Take}
 use Rattle.rules.specs.declared.event.Event.{Event}

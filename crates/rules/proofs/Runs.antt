@@ -1,6 +1,6 @@
 -- The runs, computed.
 use mathlib.Core.Path.{refl}
-use Rattle.tape.specs.Choice.{pick}
+use Rattle.basis.specs.Choice.{pick}
 use Rattle.tape.specs.Record.{ofKind, foundAt}
 use Rattle.tape.specs.Recording.{recorded}
 use Rattle.tape.specs.Walk.{walk, trail}

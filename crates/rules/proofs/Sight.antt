@@ -8,21 +8,22 @@ use lib.Dec.{leb, eqb}
 use lib.ListN.{length, take, replicate, length-append, length-take, length-replicate}
 use lib.Seq.{take-at, length-take-le}
 use borrow.Author.Tests.{leb-true, eqb-true, eqb-false, eq-eqb, ne-eqb}
-use Rattle.tape.specs.Choice.{pick}
+use Rattle.basis.specs.Choice.{pick}
 use Rattle.rules.specs.declared.drive.Drive.{Drive}
 use Rattle.rules.specs.declared.drive.Mode.{Mode}
 use Rattle.rules.specs.declared.drive.Mode.the-variants.{Idle}
-use Rattle.rules.specs.declared.unit.Phase.{Phase}
-use Rattle.rules.specs.declared.unit.Phase.the-variants.{Rest, Taking, Giving, Status}
+use Rattle.rules.specs.declared.phase.Phase.{Phase}
+use Rattle.rules.specs.declared.phase.Phase.the-variants.{Rest, Taking, Giving, Status}
 use Rattle.rules.specs.declared.unit.Port.{Port}
 use Rattle.rules.specs.declared.unit.Core.{Core}
 use Rattle.rules.specs.Drive.{noBits, noErrors, noUnderruns}
 use Rattle.rules.specs.Unit.{Lent, lent, driveAt, putDrive, tapeAt, putTape}
-use Rattle.rules.specs.Refusal.{longest, possiblePhase}
-use Rattle.rules.specs.Bytes.{givenBefore}
+use Rattle.tape.specs.Record.{longest}
+use Rattle.rules.specs.Refusal.{possiblePhase}
+use Rattle.rules.specs.Phase.{givenBefore}
 use Rattle.rules.specs.Run.{World, world}
 use Rattle.rules.specs.Promises.Demand3.{octetsIn}
-use Rattle.rules.proofs.Bools.{both}
+use Rattle.basis.proofs.Choosing.{both}
 use Rattle.rules.proofs.Places.{put-same, put-holds}
 use Rattle.rules.proofs.Sound.{Fit, Sound}
 

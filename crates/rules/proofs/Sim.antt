@@ -7,11 +7,11 @@ use mathlib.Core.Option.{Option, none, some}
 use lib.Dec.{eqb}
 use lib.ListN.{length}
 use borrow.Author.Tests.{eqb-true, eqb-false, eq-eqb, ne-eqb}
-use Rattle.tape.specs.Choice.{pick}
+use Rattle.basis.specs.Choice.{pick}
 use Rattle.rules.specs.declared.drive.Drive.{Drive}
 use Rattle.rules.specs.declared.drive.Mode.{Mode}
-use Rattle.rules.specs.declared.unit.Phase.{Phase}
-use Rattle.rules.specs.declared.unit.Phase.the-variants.{Rest, Taking, Giving, Status}
+use Rattle.rules.specs.declared.phase.Phase.{Phase}
+use Rattle.rules.specs.declared.phase.Phase.the-variants.{Rest, Taking, Giving, Status}
 use Rattle.rules.specs.declared.unit.Port.{Port}
 use Rattle.rules.specs.declared.unit.Core.{Core}
 use Rattle.rules.specs.declared.event.Act.{Act}
@@ -29,7 +29,7 @@ use Rattle.rules.specs.declared.answer.Lines.{Lines}
 use Rattle.rules.specs.Drive.{wasReset, chosen}
 use Rattle.rules.specs.Unit.{Lent, oneOf, driveAt, putDrive, tapeAt, putTape, putStaging, atPhase, atDrive, resetPort, resetCore}
 use Rattle.rules.specs.Answer.{rowOf}
-use Rattle.rules.specs.Refusal.{possiblePhase, inStepAt, slotFits, refusalIn}
+use Rattle.rules.specs.Refusal.{possiblePhase, inStepAt, slotAnswer, refusalIn}
 use Rattle.rules.specs.Lines.{linesAt, linesOf}
 use Rattle.rules.specs.Order.{orderOf, illegal, faultBy}
 use Rattle.rules.specs.Effect.{Seat, seat, Acted, leaves, faultOf, commanded}
@@ -37,12 +37,12 @@ use Rattle.rules.specs.Online.{dropped}
 use Rattle.rules.specs.Slot.{befallen, isOut, partDropped, phaseAfter}
 use Rattle.rules.specs.Step.{Stepped, act, staged, stagedIn, seatOf, done, refused, landed, effectOf, settled}
 use Rattle.rules.specs.Run.{World, world}
-use Rattle.rules.specs.Reach.{Reading, realChange, anyLevel, changes, selects, isSelectOf, answered, accepted, reachesBy, Shown, isLevel, comparedAway}
+use Rattle.rules.specs.Reach.{Change, realChange, anyLevel, changes, selects, isSelectOf, answered, accepted, reachesBy, Shown, isLevel, comparedAway}
 use Rattle.rules.specs.Promises.Demand3.{octetsIn}
-use Rattle.rules.proofs.Bools.{both, not-not}
+use Rattle.basis.proofs.Choosing.{both, not-not}
 use Rattle.rules.proofs.Places.{put-there, put-away}
 use Rattle.rules.proofs.Sound.{Sound, sound-seat}
-use Rattle.rules.proofs.StepBy.{in-step, staged-sound, own-does}
+use Rattle.rules.proofs.StepBy.{in-step, Slotted, lets, bars, slotted, staged-sound, own-does}
 use Rattle.rules.proofs.Sight.{quiet, elsewhere, herePort, awayPort, seenBy, blank, stagingIn, stagingBy, looks, look, elsewhere-not, elsewhere-real, seen-here, seen-away, staging-here, staging-away, seen-level, here-same, looks-alike, away-alike, here-alike, look-drive, look-tape, look-twice, look-sound, staging-twice, octets-twice}
 use Rattle.rules.proofs.Agree
 use Rattle.rules.proofs.Ports
@@ -211,17 +211,17 @@ answered-done true = refl
 answered-done false = refl
 
 -- why an act of another drive reaches d
-abbrev reason : Reading → ℕ → Bool → Act → Answer → Bool
+abbrev reason : Change → ℕ → Bool → Act → Answer → Bool
 reason r d level a x = (answered x && changes r a level) || (accepted x && selects d a)
 
-not-by : (r : Reading) (d : ℕ) (level : Bool) (a : Act) → atRestOnly a ≡ false → (x : Answer) → reason r d level a x ≡ true → ⊥
+not-by : (r : Change) (d : ℕ) (level : Bool) (a : Act) → atRestOnly a ≡ false → (x : Answer) → reason r d level a x ≡ true → ⊥
 not-by r d level (Command c) n x h = true≢false n
 not-by r d level (Give b) n x h = false≢true (sym (neither (answered x) (accepted x)) ∙ h)
 not-by r d level Take n x h = false≢true (sym (neither (answered x) (accepted x)) ∙ h)
 not-by r d level Online n x h = true≢false n
 not-by r d level Offline n x h = true≢false n
 
-rest-reach : (r : Reading) (d : ℕ) (level : Bool) (a : Act) (x : Answer) → reason r d level a x ≡ true → atRestOnly a ≡ true
+rest-reach : (r : Change) (d : ℕ) (level : Bool) (a : Act) (x : Answer) → reason r d level a x ≡ true → atRestOnly a ≡ true
 rest-reach r d level (Command c) x h = refl
 rest-reach r d level (Give b) x h = absurd (not-by r d level (Give b) refl x h)
 rest-reach r d level Take x h = absurd (not-by r d level Take refl x h)
@@ -285,13 +285,13 @@ module _ (c : Core) (l : Lent) (k : Sound c l) (d : ℕ) (d3 : d ≤ 3) where
   pub named-sim : (x : What) → Sim d (Named d x) c cv (settled c l (Named d x) (refusalIn c (Named d x))) (settled cv lv (Named d x) (refusalIn cv (Named d x)))
   unfolding pick
   named-sim x =
-      subst (λ (y : Drive). Sim d (Named d x) c cv (settled c l (Named d x) (refusalIn c (Named d x))) (settled cv lv (Named d x) (pick (slotFits (y .loaded) x) Taken WrongSlot)))
-      (sym (look-drive d (world c l))) (go (slotFits (driveAt c d .loaded) x))
+      subst (λ (y : Drive). Sim d (Named d x) c cv (settled c l (Named d x) (refusalIn c (Named d x))) (settled cv lv (Named d x) (slotAnswer (y .loaded) x)))
+      (sym (look-drive d (world c l))) (go _ (slotted (driveAt c d .loaded) x))
     where
-      go : (b : Bool) → Sim d (Named d x) c cv (settled c l (Named d x) (pick b Taken WrongSlot)) (settled cv lv (Named d x) (pick b Taken WrongSlot))
-      go true =
+      go : (a : Answer) → Slotted a → Sim d (Named d x) c cv (settled c l (Named d x) a) (settled cv lv (Named d x) a)
+      go a lets =
           sim-of d (Named d x) c l (effectOf c l (Named d x)) (effectOf cv lv (Named d x)) (record { is = refl }) (record { is = refl }) (named-view x) refl refl refl
-      go false = refused-sim (Named d x) WrongSlot refl
+      go a (bars stops calm) = rw (stops) (refused-sim (Named d x) a calm)
 
   -- ---- an act of drive d itself
 
@@ -351,7 +351,7 @@ module _ (c : Core) (l : Lent) (k : Sound c l) (d : ℕ) (d3 : d ≤ 3) where
             ∙ sym (put-there d (cv .port .selected) (act (stagedIn cv a lv .staging) (seatOf cv lv) a .tape) (lv .tape0) (lv .tape1) (lv .tape2) (lv .tape3) there))
 
     -- every event while d is selected, but 07 to 0A for another drive
-    pub sim-here : (r : Reading) (v : Event) (x : Answer) → reachesBy r d (c .port .selected) (c .port .online) x v ≡ true → Sim d v c cv (settled c l v (refusalIn c v)) (settled cv lv v (refusalIn cv v))
+    pub sim-here : (r : Change) (v : Event) (x : Answer) → reachesBy r d (c .port .selected) (c .port .online) x v ≡ true → Sim d v c cv (settled c l v (refusalIn c v)) (settled cv lv v (refusalIn cv v))
     unfolding pick
     sim-here r NoEvent x h = refused-sim NoEvent Malformed refl
     sim-here r Reset x h = reset-sim
@@ -457,7 +457,7 @@ module _ (c : Core) (l : Lent) (k : Sound c l) (d : ℕ) (d3 : d ≤ 3) where
             ∙ sym (put-away {A = List ℕ} d (cv .port .selected) [] (lv .tape0) (lv .tape1) (lv .tape2) (lv .tape3) d3 (kv .sel) far′))
 
     -- an act of the selected drive that reaches d
-    own-away : (r : Reading) (a : Act) → inStepAt (c .port .phase) (driveAt c (c .port .selected)) a ≡ true
+    own-away : (r : Change) (a : Act) → inStepAt (c .port .phase) (driveAt c (c .port .selected)) a ≡ true
         → reason r d (c .port .online) a (effectOf c l (Own a) .turn .answer) ≡ true → Sim d (Own a) c cv (effectOf c l (Own a)) (effectOf cv lv (Own a))
     own-away r (Command c0) q h = by-port (Ports.commanded-ported (seatOf c l) (orderOf c0) (faultOf (seatOf c l) (orderOf c0)))
       where
@@ -480,7 +480,7 @@ module _ (c : Core) (l : Lent) (k : Sound c l) (d : ℕ) (d3 : d ≤ 3) where
         level-sim Offline refl false _ _ (Ports.offline-ported _ (seatOf c l) _ (own-does c l Offline k (taken-step c Offline q))) (Ports.offline-ported _ (seatOf cv lv) _ (own-does cv lv Offline kv (ready Offline refl)))
 
     -- RESET, 07 to 0A that name d, and the acts above
-    pub sim-away : (r : Reading) (v : Event) → reachesBy r d (c .port .selected) (c .port .online) (settled c l v (refusalIn c v) .turn .answer) v ≡ true
+    pub sim-away : (r : Change) (v : Event) → reachesBy r d (c .port .selected) (c .port .online) (settled c l v (refusalIn c v) .turn .answer) v ≡ true
         → Sim d v c cv (settled c l v (refusalIn c v)) (settled cv lv v (refusalIn cv v))
     unfolding pick
     sim-away r NoEvent h = absurd (false≢true (sym f ∙ h))
@@ -557,11 +557,11 @@ module _ (c : Core) (l : Lent) (k : Sound c l) (d : ℕ) (d3 : d ≤ 3) where
   unfolding pick
   still NoEvent r h = refl
   still Reset r h = absurd (true≢false h)
-  still (Named i x) r h = by-slot (slotFits (driveAt c i .loaded) x)
+  still (Named i x) r h = by-slot _ (slotted (driveAt c i .loaded) x)
     where
-      by-slot : (b : Bool) → seenIn d (settled c l (Named i x) (pick b Taken WrongSlot)) ≡ look d (world c l)
-      by-slot true = named-still i x (r i x refl) h
-      by-slot false = refl
+      by-slot : (a : Answer) → Slotted a → seenIn d (settled c l (Named i x) a) ≡ look d (world c l)
+      by-slot a lets = named-still i x (r i x refl) h
+      by-slot a (bars stops calm) = rw (stops) refl
   still (Own a) r h = by-sel (eqb (c .port .selected) d) refl h
     where
       by-sel : (s : Bool) → eqb (c .port .selected) d ≡ s → (s || reason realChange d (c .port .online) a (settled c l (Own a) (refusalIn c (Own a)) .turn .answer)) ≡ false
@@ -575,7 +575,7 @@ module _ (c : Core) (l : Lent) (k : Sound c l) (d : ℕ) (d3 : d ≤ 3) where
           by-step false q y = refl
 
   -- every event that reaches d, in either reading, is to d as in the world that it sees
-  pub sim : (r : Reading) (v : Event) → reachesBy r d (c .port .selected) (c .port .online) (settled c l v (refusalIn c v) .turn .answer) v ≡ true
+  pub sim : (r : Change) (v : Event) → reachesBy r d (c .port .selected) (c .port .online) (settled c l v (refusalIn c v) .turn .answer) v ≡ true
       → Sim d v c cv (settled c l v (refusalIn c v)) (settled cv lv v (refusalIn cv v))
   sim r v h = go (eqb (c .port .selected) d) refl
     where

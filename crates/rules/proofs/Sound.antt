@@ -11,11 +11,12 @@ use Rattle.rules.specs.declared.drive.Mode.{Mode}
 use Rattle.rules.specs.declared.drive.Mode.the-variants.{Idle, Writing, Reading}
 use Rattle.rules.specs.declared.unit.Core.{Core}
 use Rattle.rules.specs.Unit.{Lent, driveAt, tapeAt, freshCore, Whole}
-use Rattle.rules.specs.Refusal.{longest, modeFits, possibleDrive, possiblePhase, possible, short}
+use Rattle.tape.specs.Record.{longest}
+use Rattle.rules.specs.Refusal.{modeFits, possibleDrive, possiblePhase, possible, short}
 use Rattle.rules.specs.Effect.{Seat}
 use Rattle.rules.specs.Step.{seatOf}
 use Rattle.rules.specs.Promises.Possible.{FreshIsPossible}
-use Rattle.rules.proofs.Bools.{both, join}
+use Rattle.basis.proofs.Choosing.{both, join}
 use Rattle.rules.proofs.Places.{one-holds, all-hold}
 
 -- A drive's record that is possible.

@@ -6,7 +6,7 @@ use mathlib.Core.List.{List}
 use native.Mathlib.Omega.{arith}
 use lib.Dec.{ltb, eqb}
 use borrow.Author.Tests.{eqb-true, eqb-false}
-use Rattle.tape.specs.Choice.{pick}
+use Rattle.basis.specs.Choice.{pick}
 use Rattle.rules.specs.declared.drive.Drive.{Drive}
 use Rattle.rules.specs.declared.drive.Bit.the-variants.{Cni}
 use Rattle.rules.specs.declared.unit.Core.{Core}
@@ -22,7 +22,8 @@ use Rattle.rules.specs.Drive.{highest, counted, wasReset}
 use Rattle.rules.specs.Unit.{Lent, Whole, driveAt, resetCore}
 use Rattle.rules.specs.Event.{eventOf}
 use Rattle.rules.specs.Answer.{rowOf}
-use Rattle.rules.specs.Refusal.{atRest, inStepAt, refusalIn}
+use Rattle.rules.specs.Phase.{atRest}
+use Rattle.rules.specs.Refusal.{inStepAt, refusalIn}
 use Rattle.rules.specs.Slot.{befallen, isOut}
 use Rattle.rules.specs.Step.{Stepped, act, stagedIn, seatOf, effectOf, stepOf}
 use Rattle.rules.specs.Promises.Table.{answerTo}

@@ -1,22 +1,24 @@
 -- One event: refused in one of the ways, or taken in a sound world. Every promise of a step goes by these two.
 use Prim.Native.Nat.{ℕ, _≤_}
-use mathlib.Core.Path.{_≡_, refl, _∙_}
-use mathlib.Core.Bool.{Bool, true, false}
+use mathlib.Core.Path.{_≡_, refl, sym, _∙_}
+use mathlib.Core.Bool.{Bool, true, false, not, false≢true}
 use mathlib.Core.List.{List}
 use lib.ListN.{length, length-set}
-use Rattle.tape.specs.Choice.{pick}
+use Rattle.basis.specs.Choice.{pick}
 use Rattle.rules.specs.declared.unit.Core.{Core}
-use Rattle.rules.specs.declared.unit.Phase.{Phase}
+use Rattle.rules.specs.declared.phase.Phase.{Phase}
 use Rattle.rules.specs.declared.event.Act.{Act}
 use Rattle.rules.specs.declared.event.Act.the-variants.{Command, Give, Take, Online, Offline}
 use Rattle.rules.specs.declared.event.Event.{Event}
 use Rattle.rules.specs.declared.event.Event.the-variants.{NoEvent, Reset, Named, Own}
+use Rattle.rules.specs.declared.event.What.{What}
+use Rattle.rules.specs.declared.event.What.the-variants.{In, Out, Error, Underrun}
 use Rattle.rules.specs.declared.answer.Answer.{Answer}
 use Rattle.rules.specs.declared.answer.Answer.the-variants.{Taken, OutOfStep, WrongSlot, TooLong, Impossible}
 use Rattle.rules.specs.Unit.{Lent, driveAt, Whole}
 use Rattle.rules.specs.Event.{eventOf}
 use Rattle.rules.specs.Answer.{rowOf}
-use Rattle.rules.specs.Refusal.{possible, short, inStepAt, slotFits, refusalIn, refusalBy, refusalOf}
+use Rattle.rules.specs.Refusal.{possible, short, inStepAt, slotAnswer, refusalIn, refusalBy, refusalOf}
 use Rattle.rules.specs.Effect.{Acted}
 use Rattle.rules.specs.Bytes.{stagedByte}
 use Rattle.rules.specs.Step.{Stepped, act, staged, stagedIn, seatOf, refused, effectOf, settled, stepBy, stepOf}
@@ -29,21 +31,37 @@ unfolding pick
 in-step true h = refl
 in-step false h = cc
 
-pub slot-fits : (b : Bool) → pick b Taken WrongSlot ≡ Taken → b ≡ true
+-- what a slot answers: it lets the event happen, or refuses it and shows the lines of the record
+pub data Slotted : Answer → Type 0 where
+  lets : Slotted Taken
+  bars : {a : Answer} → rowOf a .refuses ≡ true → rowOf a .linesDown ≡ false → Slotted a
+
+pub slotted : (loaded : Bool) (w : What) → Slotted (slotAnswer loaded w)
 unfolding pick
-slot-fits true h = refl
-slot-fits false h = cc
+slotted true (In p) = bars refl refl
+slotted false (In p) = lets
+slotted true Out = lets
+slotted false Out = bars refl refl
+slotted true Error = lets
+slotted false Error = bars refl refl
+slotted true Underrun = lets
+slotted false Underrun = bars refl refl
+
+pub slot-empty : (loaded : Bool) → pick (not loaded) Taken WrongSlot ≡ Taken → loaded ≡ false
+unfolding pick
+slot-empty true h = cc
+slot-empty false h = refl
 
 -- what refuses an event is `Taken` or a refusal
 unrefused : (c : Core) (e : Event) → rowOf (refusalIn c e) .refuses ≡ false → refusalIn c e ≡ Taken
 unfolding pick
 unrefused c NoEvent h = cc
 unrefused c Reset h = refl
-unrefused c (Named i w) h = go (slotFits (driveAt c i .loaded) w) h
+unrefused c (Named i w) h = go _ (slotted (driveAt c i .loaded) w) h
   where
-    go : (b : Bool) → rowOf (pick b Taken WrongSlot) .refuses ≡ false → pick b Taken WrongSlot ≡ Taken
-    go true h = refl
-    go false h = cc
+    go : (a : Answer) → Slotted a → rowOf a .refuses ≡ false → a ≡ Taken
+    go a lets h = refl
+    go a (bars stops calm) h = absurd (false≢true (sym h ∙ stops))
 unrefused c (Own a) h = go (inStepAt (c .port .phase) (driveAt c (c .port .selected)) a) h
   where
     go : (b : Bool) → rowOf (pick b Taken OutOfStep) .refuses ≡ false → pick b Taken OutOfStep ≡ Taken

@@ -6,18 +6,21 @@ use mathlib.Core.Bool.{Bool, true, false, not}
 use mathlib.Core.List.{List}
 use native.Mathlib.Omega.{arith}
 use lib.Dec.{eqb}
-use Rattle.tape.specs.Choice.{pick}
+use Rattle.basis.specs.Choice.{pick}
 use Rattle.rules.specs.declared.unit.Core.{Core}
 use Rattle.rules.specs.declared.event.Event.{Event}
 use Rattle.rules.specs.declared.event.Event.the-variants.{NoEvent, Reset, Named, Own}
+use Rattle.rules.specs.declared.event.What.{What}
+use Rattle.rules.specs.declared.event.What.the-variants.{In, Out, Error, Underrun}
 use Rattle.rules.specs.declared.answer.Answer.{Answer}
 use Rattle.rules.specs.declared.answer.Answer.the-variants.{Taken, Raised, OutOfStep, WrongSlot, Malformed, Impossible, TooLong}
 use Rattle.rules.specs.Unit.{Lent, driveAt}
 use Rattle.rules.specs.Event.{eventOf}
 use Rattle.rules.specs.Answer.{rowOf}
-use Rattle.rules.specs.Refusal.{possible, short, inStepAt, slotFits, refusalIn, refusalBy, refusalOf}
+use Rattle.rules.specs.Slot.{isOut}
+use Rattle.rules.specs.Refusal.{possible, short, inStepAt, slotAnswer, refusalIn, refusalBy, refusalOf}
 use Rattle.rules.specs.Step.{Stepped, effectOf, settled, stepBy, stepOf}
-use Rattle.rules.specs.Promises.Table.{impossible, tooLong, malformed, outOfStep, wrongSlot, raises, answerTo, Table, AnswersByTheTable, OneOfSeven, NumbersTellApart}
+use Rattle.rules.specs.Promises.Table.{impossible, tooLong, malformed, outOfStep, slotFits, wrongSlot, raises, answerTo, Table, AnswersByTheTable, OneOfSeven, NumbersTellApart}
 
 -- the answer by the six conditions, in the order they are tried
 inOrder : Bool → Bool → Bool → Bool → Bool → Bool → Answer
@@ -61,11 +64,17 @@ settled-answer : (c : Core) (l : Lent) (e : Event) → settled c l e (refusalIn 
 unfolding pick inOrder
 settled-answer c l NoEvent = refl
 settled-answer c l Reset = refl
-settled-answer c l (Named i w) = go (slotFits (driveAt c i .loaded) w)
+settled-answer c l (Named i w) = go (driveAt c i .loaded) w
   where
-    go : (b : Bool) → settled c l (Named i w) (pick b Taken WrongSlot) .turn .answer ≡ pick (not b) WrongSlot (pick (raises c l (Named i w)) Raised Taken)
-    go true = refl
-    go false = refl
+    go : (b : Bool) (w : What) → settled c l (Named i w) (slotAnswer b w) .turn .answer ≡ pick (not (slotFits b w)) WrongSlot (pick (isOut w) Raised Taken)
+    go true (In p) = refl
+    go false (In p) = refl
+    go true Out = refl
+    go false Out = refl
+    go true Error = refl
+    go false Error = refl
+    go true Underrun = refl
+    go false Underrun = refl
 settled-answer c l (Own a) = go (inStepAt (c .port .phase) (driveAt c (c .port .selected)) a)
   where
     go : (b : Bool) → settled c l (Own a) (pick b Taken OutOfStep) .turn .answer ≡ pick (not b) OutOfStep (pick (raises c l (Own a)) Raised Taken)

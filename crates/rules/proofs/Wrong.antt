@@ -6,15 +6,15 @@ use mathlib.Core.List.{List, [], _∷_}
 use native.Mathlib.Omega.{arith}
 use lib.Dec.{eqb}
 use lib.ListN.{length, set}
-use Rattle.tape.specs.Choice.{pick}
+use Rattle.basis.specs.Choice.{pick}
 use Rattle.tape.specs.Record.{markRecord}
 use Rattle.tape.specs.Recording.{recorded}
 use Rattle.rules.specs.declared.drive.Drive.{Drive}
 use Rattle.rules.specs.declared.drive.Mode.{Mode}
 use Rattle.rules.specs.declared.drive.Mode.the-variants.{Idle, Writing, Reading}
 use Rattle.rules.specs.declared.unit.Core.{Core}
-use Rattle.rules.specs.declared.unit.Phase.{Phase}
-use Rattle.rules.specs.declared.unit.Phase.the-variants.{Rest, Taking}
+use Rattle.rules.specs.declared.phase.Phase.{Phase}
+use Rattle.rules.specs.declared.phase.Phase.the-variants.{Rest, Taking}
 use Rattle.rules.specs.declared.event.Act.{Act}
 use Rattle.rules.specs.declared.event.Act.the-variants.{Command, Give, Offline}
 use Rattle.rules.specs.declared.event.What.{What}
@@ -35,7 +35,7 @@ use Rattle.rules.specs.Refusal.{refusalIn}
 use Rattle.rules.specs.Order.{orderOf}
 use Rattle.rules.specs.Octets.{cni, withTop, bit, octet0}
 use Rattle.rules.specs.Effect.{Seat, Acted, faultOf, commanded}
-use Rattle.rules.specs.Bytes.{stagedByte, gave}
+use Rattle.rules.specs.Bytes.{stagedByte, byteGiven}
 use Rattle.rules.specs.Slot.{befallen}
 use Rattle.rules.specs.Step.{Stepped, act, stagedIn, seatOf, landed, effectOf, stepOf}
 use Rattle.rules.specs.Run.{World, after, run, turnOf}

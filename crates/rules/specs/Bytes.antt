@@ -4,26 +4,20 @@ use mathlib.Core.Bool.{Bool, true, false}
 use mathlib.Core.List.{List}
 use lib.ListN.{length, getD, set}
 use lib.Dec.{ltb, leb}
-use Rattle.tape.specs.Choice.{pick}
+use Rattle.basis.specs.Choice.{pick}
 use Rattle.tape.specs.Record.{foundAt, bodySize, blockSize}
 use Rattle.rules.specs.declared.drive.Drive.{Drive}
 use Rattle.rules.specs.declared.drive.Bit.the-variants.{Eom, Ude}
 use Rattle.rules.specs.declared.unit.Port.{Port}
-use Rattle.rules.specs.declared.unit.Phase.{Phase}
-use Rattle.rules.specs.declared.unit.Phase.the-variants.{Rest, Taking, Giving, Status}
+use Rattle.rules.specs.declared.phase.Phase.{Phase}
+use Rattle.rules.specs.declared.phase.Phase.the-variants.{Rest, Taking, Giving, Status}
 use Rattle.rules.specs.declared.order.Checked.{Checked}
 use Rattle.rules.specs.Drive.{stopping, made, passedTo}
-use Rattle.rules.specs.Unit.{lastPlace, reportSize, atPhase}
+use Rattle.rules.specs.Phase.{lastPlace, reportSize}
+use Rattle.rules.specs.Unit.{atPhase}
 use Rattle.rules.specs.Order.{writeRoom}
 use Rattle.rules.specs.Edge.{isBlock, checked}
 use Rattle.rules.specs.Effect.{Seat, Acted, leaves, hands, withBlock, resting}
-
--- How many bytes of a block were given before.
-abbrev pub givenBefore : Phase → ℕ
-givenBefore Rest = 0
-givenBefore (Taking n) = n
-givenBefore (Giving n) = 0
-givenBefore (Status k) = 0
 
 -- The place of the next byte: as many as came before it, and never past the last.
 abbrev pub placeOf : ℕ → ℕ
@@ -48,8 +42,8 @@ stored g p d t =
     (leaves true p (stopping Eom d) t)
 
 -- A byte given where n were given before, and g is the staging block with the byte in it. No tape byte changes before the 512th.
-abbrev pub gave : List ℕ → Seat → ℕ → Acted
-gave g s n =
+abbrev pub byteGiven : List ℕ → Seat → ℕ → Acted
+byteGiven g s n =
     pick (ltb n lastPlace)
     (leaves false (atPhase (Taking (n + 1)) (s .port)) (s .drive) (s .tape))
     (stored g (resting s) (s .drive) (s .tape))
@@ -83,8 +77,8 @@ afterOctet k = pick (leb k 1) Rest (Status (k - 1))
 unfoldable pub octetTaken : Seat → ℕ → Acted
 octetTaken s k = hands false (getD (s .port .octets) (octetPlace k) 0) (atPhase (afterOctet k) (s .port)) (s .drive) (s .tape)
 
-abbrev pub took : Seat → Phase → Acted
-took s Rest = firstTaken s (checked (s .tape) (s .drive))
-took s (Taking n) = leaves false (s .port) (s .drive) (s .tape)
-took s (Giving n) = nextTaken s n (isBlock (foundAt (s .tape) (s .drive .head)))
-took s (Status k) = octetTaken s k
+abbrev pub byteTaken : Seat → Phase → Acted
+byteTaken s Rest = firstTaken s (checked (s .tape) (s .drive))
+byteTaken s (Taking n) = leaves false (s .port) (s .drive) (s .tape)
+byteTaken s (Giving n) = nextTaken s n (isBlock (foundAt (s .tape) (s .drive .head)))
+byteTaken s (Status k) = octetTaken s k

@@ -39,6 +39,6 @@ unfoldable pub checked : List ℕ → Drive → Checked
 checked t d = checkedBy (foundAt t (d .head)) d
 
 -- READ FILE MARK, by where passing records ended: the head goes there, and the bit tells what was met.
-abbrev pub searched : Passed → Drive → Drive
-searched (Past at) d = stopping Fil (passedTo at d)
-searched (Stopped at w) d = halted w (passedTo at d)
+abbrev pub standing : Passed → Drive → Drive
+standing (Past at) d = stopping Fil (passedTo at d)
+standing (Stopped at w) d = halted w (passedTo at d)

@@ -10,7 +10,7 @@ use Rattle.rules.specs.declared.drive.Drive.{Drive}
 use Rattle.rules.specs.declared.drive.Mode.the-variants.{Idle, Writing, Reading}
 use Rattle.rules.specs.declared.drive.Bit.the-variants.{Cni, Eom, Ill}
 use Rattle.rules.specs.declared.unit.Port.{Port}
-use Rattle.rules.specs.declared.unit.Phase.the-variants.{Rest}
+use Rattle.rules.specs.declared.phase.Phase.the-variants.{Rest}
 use Rattle.rules.specs.declared.unit.Moved.{Moved}
 use Rattle.rules.specs.declared.order.Order.{Order}
 use Rattle.rules.specs.declared.order.Order.the-variants.{NoOrder, Select, Bot, Erase, Initialize, Write, WriteMark, Read, ReadMark, ReadStatus}
@@ -20,7 +20,7 @@ use Rattle.rules.specs.declared.order.Checked.{Checked}
 use Rattle.rules.specs.Drive.{rewound, chosen, raised, latching, stopping, inMode, made, cleared}
 use Rattle.rules.specs.Unit.{atPhase, atDrive, showing}
 use Rattle.rules.specs.Order.{needsOf, faultBy}
-use Rattle.rules.specs.Edge.{checked, searched}
+use Rattle.rules.specs.Edge.{checked, standing}
 use Rattle.rules.specs.Octets.{octetsOf}
 
 -- What the selected drive sees: the port, its own record, its own tape.
@@ -70,7 +70,7 @@ ordered s WriteMark =
     leaves false (resting s) (inMode Idle (made (s .drive .head + markSize) (s .drive))) (withMark (s .drive) (s .tape))
 ordered s Read =
     leaves (checked (s .tape) (inMode Reading (s .drive)) .raised) (resting s) (checked (s .tape) (inMode Reading (s .drive)) .drive) (s .tape)
-ordered s ReadMark = leaves true (resting s) (searched (passed (s .tape) (s .drive .head)) (s .drive)) (s .tape)
+ordered s ReadMark = leaves true (resting s) (standing (passed (s .tape) (s .drive .head)) (s .drive)) (s .tape)
 ordered s ReadStatus = leaves false (showing (octetsOf (s .drive)) (s .port)) (cleared (s .drive)) (s .tape)
 
 -- The test that fits an order in a seat.

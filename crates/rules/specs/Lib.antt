@@ -1,4 +1,5 @@
 pub mod Drive
+pub mod Phase
 pub mod Unit
 pub mod Event
 pub mod Answer
@@ -13,6 +14,6 @@ pub mod Online
 pub mod Slot
 pub mod Step
 pub mod Run
+pub mod Ran
 pub mod Reach
-pub mod Tests
 pub mod Promises

@@ -1,24 +1,12 @@
 -- The three lines, by the phase and the selected drive.
 use mathlib.Core.Bool.{Bool, true, false, not, _&&_, _||_}
-use Rattle.rules.specs.declared.unit.Phase.{Phase}
-use Rattle.rules.specs.declared.unit.Phase.the-variants.{Rest, Taking, Giving, Status}
+use Rattle.rules.specs.declared.phase.Phase.{Phase}
 use Rattle.rules.specs.declared.unit.Core.{Core}
 use Rattle.rules.specs.declared.drive.Drive.{Drive}
 use Rattle.rules.specs.declared.answer.Lines.{Lines}
 use Rattle.rules.specs.Drive.{reads}
+use Rattle.rules.specs.Phase.{isStatus, restOrStatus}
 use Rattle.rules.specs.Unit.{driveAt}
-
-abbrev pub restOrStatus : Phase → Bool
-restOrStatus Rest = true
-restOrStatus (Taking n) = false
-restOrStatus (Giving n) = false
-restOrStatus (Status k) = true
-
-abbrev pub isStatus : Phase → Bool
-isStatus Rest = false
-isStatus (Taking n) = false
-isStatus (Giving n) = false
-isStatus (Status k) = true
 
 abbrev pub linesAt : Phase → Drive → Lines
 linesAt ph d =

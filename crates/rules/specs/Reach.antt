@@ -4,7 +4,7 @@ use mathlib.Core.Bool.{Bool, true, false, not, _&&_, _||_}
 use mathlib.Core.List.{List, [], _∷_}
 use mathlib.Core.Option.{Option, none, some}
 use lib.Dec.{eqb}
-use Rattle.tape.specs.Choice.{pick}
+use Rattle.basis.specs.Choice.{pick}
 use Rattle.rules.specs.declared.event.Act.{Act}
 use Rattle.rules.specs.declared.event.Act.the-variants.{Command, Give, Take, Online, Offline}
 use Rattle.rules.specs.declared.event.Event.{Event}
@@ -40,11 +40,11 @@ selects d Online = false
 selects d Offline = false
 
 -- An ONLINE change: a real change of the level; or, in the other reading, a level repeated too.
-pub data Reading : Type 0 where
-  realChange : Reading
-  anyLevel : Reading
+pub data Change : Type 0 where
+  realChange : Change
+  anyLevel : Change
 
-abbrev pub changes : Reading → Act → Bool → Bool
+abbrev pub changes : Change → Act → Bool → Bool
 changes r (Command c) level = false
 changes r (Give b) level = false
 changes r Take level = false
@@ -62,14 +62,14 @@ accepted a = eqb (rowOf a .number) 0
 
 -- Whether an event reaches drive d, by what was selected and the level before it, and by its answer. An event that names a drive reaches that one alone;
 -- an act reaches the drive it is for, and any drive whose level it changes or that it selects.
-abbrev pub reachesBy : Reading → ℕ → ℕ → Bool → Answer → Event → Bool
+abbrev pub reachesBy : Change → ℕ → ℕ → Bool → Answer → Event → Bool
 reachesBy r d selected level a NoEvent = eqb selected d
 reachesBy r d selected level a Reset = true
 reachesBy r d selected level a (Named i w) = eqb i d
 reachesBy r d selected level a (Own act) =
     eqb selected d || ((answered a && changes r act level) || (accepted a && selects d act))
 
-unfoldable pub reaches : Reading → ℕ → World → List ℕ → Bool
+unfoldable pub reaches : Change → ℕ → World → List ℕ → Bool
 reaches r d w e = reachesBy r d (w .core .port .selected) (w .core .port .online) (turnOf w e .answer) (eventOf e)
 
 -- What the drive gave: lines and byte where it is selected after the event; the answer, but not of an ONLINE change while another drive is selected.
@@ -106,14 +106,14 @@ unfoldable pub gave : ℕ → World → List ℕ → Gave
 gave d w e = gaveBy d (w .core .port .selected) (eventOf e) (turnOf w e)
 
 -- Over a run: the events that reach drive d, and what it gave at them.
-abbrev pub keptIf : {A : Type 0} → Bool → A → List A → List A
-keptIf true x l = x ∷ l
-keptIf false x l = l
+abbrev pub onlyIf : {A : Type 0} → Bool → A → List A → List A
+onlyIf true x l = x ∷ l
+onlyIf false x l = l
 
-abbrev pub reached : Reading → ℕ → World → List (List ℕ) → List (List ℕ)
+abbrev pub reached : Change → ℕ → World → List (List ℕ) → List (List ℕ)
 reached r d w [] = []
-reached r d w (e ∷ es) = keptIf (reaches r d w e) e (reached r d (after w e) es)
+reached r d w (e ∷ es) = onlyIf (reaches r d w e) e (reached r d (after w e) es)
 
-abbrev pub given : Reading → ℕ → World → List (List ℕ) → List Gave
+abbrev pub given : Change → ℕ → World → List (List ℕ) → List Gave
 given r d w [] = []
-given r d w (e ∷ es) = keptIf (reaches r d w e) (gave d w e) (given r d (after w e) es)
+given r d w (e ∷ es) = onlyIf (reaches r d w e) (gave d w e) (given r d (after w e) es)

@@ -4,12 +4,13 @@ use mathlib.Core.Bool.{Bool, true, false, not, _&&_, _||_}
 use mathlib.Core.List.{List}
 use lib.ListN.{length}
 use lib.Dec.{leb}
-use Rattle.tape.specs.Choice.{pick}
+use Rattle.basis.specs.Choice.{pick}
+use Rattle.tape.specs.Record.{longest}
 use Rattle.rules.specs.declared.drive.Drive.{Drive}
 use Rattle.rules.specs.declared.drive.Mode.{Mode}
 use Rattle.rules.specs.declared.drive.Mode.the-variants.{Idle, Writing, Reading}
-use Rattle.rules.specs.declared.unit.Phase.{Phase}
-use Rattle.rules.specs.declared.unit.Phase.the-variants.{Rest, Taking, Giving, Status}
+use Rattle.rules.specs.declared.phase.Phase.{Phase}
+use Rattle.rules.specs.declared.phase.Phase.the-variants.{Rest, Taking, Giving, Status}
 use Rattle.rules.specs.declared.unit.Core.{Core}
 use Rattle.rules.specs.declared.event.Act.{Act}
 use Rattle.rules.specs.declared.event.Act.the-variants.{Command, Give, Take, Online, Offline}
@@ -20,11 +21,8 @@ use Rattle.rules.specs.declared.event.Event.the-variants.{NoEvent, Reset
 use Rattle.rules.specs.declared.answer.Answer.{Answer}
 use Rattle.rules.specs.declared.answer.Answer.the-variants.{Taken, Raised, OutOfStep, WrongSlot, Malformed, Impossible, TooLong}
 use Rattle.rules.specs.Drive.{isWriting, isReading, writes, reads}
-use Rattle.rules.specs.Unit.{Lent, lastPlace, reportSize, driveAt}
-
--- The longest tape, and the furthest head.
-abbrev pub longest : ℕ
-longest = 16777216
+use Rattle.rules.specs.Phase.{lastPlace, reportSize, atRest}
+use Rattle.rules.specs.Unit.{Lent, driveAt}
 
 -- 5, possible or not. What each mode asks of the slot: a plug wants a cartridge, Reading too, and Writing wants one that is open.
 abbrev pub modeFits : Mode → Bool → Bool → Bool
@@ -57,12 +55,6 @@ short l =
     && (leb (length (l .tape1)) longest && (leb (length (l .tape2)) longest && leb (length (l .tape3)) longest))
 
 -- 2, in step or not. Commands and the level of ONLINE want Rest.
-abbrev pub atRest : Phase → Bool
-atRest Rest = true
-atRest (Taking n) = false
-atRest (Giving n) = false
-atRest (Status k) = false
-
 -- A byte given wants a drive that writes, between blocks or in the middle of one.
 abbrev pub takes : Phase → Bool → Bool
 takes Rest writing = writing
@@ -87,23 +79,23 @@ inStep ph writing reading Offline = atRest ph
 abbrev pub inStepAt : Phase → Drive → Act → Bool
 inStepAt ph d a = inStep ph (writes d) (reads d) a
 
--- 3, the slot: a cartridge wants an empty one, everything else a full one.
-abbrev pub slotFits : Bool → What → Bool
-slotFits loaded (In p) = not loaded
-slotFits loaded Out = loaded
-slotFits loaded Error = loaded
-slotFits loaded Underrun = loaded
+-- 3, the slot: a cartridge wants an empty one, everything else a full one. The answer of a slot with a cartridge in it, or without.
+abbrev pub slotAnswer : Bool → What → Answer
+slotAnswer loaded (In p) = pick (not loaded) Taken WrongSlot
+slotAnswer loaded Out = pick loaded Taken WrongSlot
+slotAnswer loaded Error = pick loaded Taken WrongSlot
+slotAnswer loaded Underrun = pick loaded Taken WrongSlot
 
 -- What refuses an event in a possible record with short tapes; `Taken` where nothing does.
 abbrev pub refusalIn : Core → Event → Answer
 refusalIn c NoEvent = Malformed
 refusalIn c Reset = Taken
-refusalIn c (Named i w) = pick (slotFits (driveAt c i .loaded) w) Taken WrongSlot
+refusalIn c (Named i w) = slotAnswer (driveAt c i .loaded) w
 refusalIn c (Own a) = pick (inStepAt (c .port .phase) (driveAt c (c .port .selected)) a) Taken OutOfStep
 
 -- 5 before 6, and 6 before the others.
 abbrev pub refusalBy : Bool → Bool → Answer → Answer
-refusalBy ok near a = pick ok (pick near a TooLong) Impossible
+refusalBy possible short a = pick possible (pick short a TooLong) Impossible
 
 unfoldable pub refusalOf : Core → Lent → Event → Answer
 refusalOf c l e = refusalBy (possible c) (short l) (refusalIn c e)

@@ -1,9 +1,9 @@
 -- Cartridges and counts: what happens at a drive that an event names.
 use mathlib.Core.Bool.{Bool, true, false, _&&_}
-use Rattle.tape.specs.Choice.{pick}
+use Rattle.basis.specs.Choice.{pick}
 use Rattle.rules.specs.declared.drive.Drive.{Drive}
-use Rattle.rules.specs.declared.unit.Phase.{Phase}
-use Rattle.rules.specs.declared.unit.Phase.the-variants.{Rest, Taking, Giving, Status}
+use Rattle.rules.specs.declared.phase.Phase.{Phase}
+use Rattle.rules.specs.declared.phase.Phase.the-variants.{Rest, Taking, Giving, Status}
 use Rattle.rules.specs.declared.event.What.{What}
 use Rattle.rules.specs.declared.event.What.the-variants.{In, Out, Error, Underrun}
 use Rattle.rules.specs.Drive.{loadedWith, pulled, errorCounted, underrunCounted}

@@ -4,13 +4,14 @@ use mathlib.Core.Path.{_≡_}
 use mathlib.Core.Bool.{Bool, true, false}
 use mathlib.Core.List.{List}
 use lib.Dec.{eqb}
-use Rattle.tape.specs.Choice.{pick}
+use Rattle.basis.specs.Choice.{pick}
 use Rattle.rules.specs.declared.drive.Drive.{Drive}
-use Rattle.rules.specs.declared.unit.Phase.{Phase}
+use Rattle.rules.specs.declared.phase.Phase.{Phase}
 use Rattle.rules.specs.declared.unit.Port.{Port}
 use Rattle.rules.specs.declared.unit.Core.{Core}
 use Rattle.rules.specs.declared.event.Act.{Act}
 use Rattle.rules.specs.declared.event.Act.the-variants.{Command, Give, Take, Online, Offline}
+use Rattle.rules.specs.declared.event.What.{What}
 use Rattle.rules.specs.declared.event.Event.{Event}
 use Rattle.rules.specs.declared.event.Event.the-variants.{NoEvent, Reset, Named, Own}
 use Rattle.rules.specs.declared.answer.Answer.{Answer}
@@ -24,7 +25,8 @@ use Rattle.rules.specs.Refusal.{refusalOf}
 use Rattle.rules.specs.Lines.{linesOf, linesDown}
 use Rattle.rules.specs.Order.{orderOf}
 use Rattle.rules.specs.Effect.{Seat, seat, Acted, faultOf, commanded}
-use Rattle.rules.specs.Bytes.{givenBefore, stagedByte, gave, took}
+use Rattle.rules.specs.Phase.{givenBefore}
+use Rattle.rules.specs.Bytes.{stagedByte, byteGiven, byteTaken}
 use Rattle.rules.specs.Online.{levelled, dropped}
 use Rattle.rules.specs.Slot.{befallen, isOut, phaseAfter}
 
@@ -39,8 +41,8 @@ staged ph Offline g = g
 -- What the selected drive does: a function of the staging block, the port, its own record and its own tape alone.
 abbrev pub act : List ℕ → Seat → Act → Acted
 act g s (Command c) = commanded s (orderOf c) (faultOf s (orderOf c))
-act g s (Give b) = gave g s (givenBefore (s .port .phase))
-act g s Take = took s (s .port .phase)
+act g s (Give b) = byteGiven g s (givenBefore (s .port .phase))
+act g s Take = byteTaken s (s .port .phase)
 act g s Online = levelled true s
 act g s Offline = dropped s
 
@@ -53,14 +55,18 @@ abbrev pub stepped : Turn → Lent → Stepped
 stepped r l = record { turn = r; lent = l }
 
 -- Taken: answer 1 where a rule raised EXCEPTION on a drive, else 0.
+abbrev pub takenTurn : Bool → Bool → ℕ → Core → Turn
+takenTurn raised given byte c = record { answer = pick raised Raised Taken; given = given; byte = byte; lines = linesOf c; core = c }
+
 abbrev pub done : Bool → Bool → ℕ → Core → Lent → Stepped
-done raised given byte c l =
-    stepped (record { answer = pick raised Raised Taken; given = given; byte = byte; lines = linesOf c; core = c }) l
+done raised given byte c l = stepped (takenTurn raised given byte c) l
 
 -- Refused: all as found, no byte; after 5 the three lines are down.
+abbrev pub refusedTurn : Answer → Core → Turn
+refusedTurn a c = record { answer = a; given = false; byte = 0; lines = pick (rowOf a .linesDown) linesDown (linesOf c); core = c }
+
 abbrev pub refused : Answer → Core → Lent → Stepped
-refused a c l =
-    stepped (record { answer = a; given = false; byte = 0; lines = pick (rowOf a .linesDown) linesDown (linesOf c); core = c }) l
+refused a c l = stepped (refusedTurn a c) l
 
 -- The seat of the selected drive, and what its act leaves put back.
 abbrev pub seatOf : Core → Lent → Seat
@@ -77,12 +83,16 @@ stagedIn c a l = putStaging l (staged (c .port .phase) a (l .staging))
 abbrev pub owned : Core → Lent → Act → Stepped
 owned c l a = landed c l (act (l .staging) (seatOf c l) a)
 
+-- What befalls drive i: its record changed, and the phase where it is the selected one.
+abbrev pub befallenAt : Core → ℕ → What → Core
+befallenAt c i w =
+    putDrive c (atPhase (phaseAfter w (eqb i (c .port .selected)) (c .port .phase)) (c .port)) i (befallen w (driveAt c i))
+
 -- What an event does where nothing refuses it.
 abbrev pub effectOf : Core → Lent → Event → Stepped
 effectOf c l NoEvent = done false false 0 c l
 effectOf c l Reset = done true false 0 (resetCore c) l
-effectOf c l (Named i w) =
-    done (isOut w) false 0 (putDrive c (atPhase (phaseAfter w (eqb i (c .port .selected)) (c .port .phase)) (c .port)) i (befallen w (driveAt c i))) l
+effectOf c l (Named i w) = done (isOut w) false 0 (befallenAt c i w) l
 effectOf c l (Own a) = owned c (stagedIn c a l) a
 
 abbrev pub settled : Core → Lent → Event → Answer → Stepped

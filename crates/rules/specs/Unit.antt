@@ -5,15 +5,16 @@ use mathlib.Core.Bool.{Bool, true, false}
 use mathlib.Core.List.{List}
 use lib.ListN.{length, replicate}
 use lib.Dec.{leb, eqb}
-use Rattle.tape.specs.Choice.{pick}
+use Rattle.basis.specs.Choice.{pick}
 use Rattle.tape.specs.Record.{bodySize}
 use Rattle.rules.specs.declared.drive.Drive.{Drive}
-use Rattle.rules.specs.declared.unit.Phase.{Phase}
-use Rattle.rules.specs.declared.unit.Phase.the-variants.{Rest, Taking, Giving, Status}
+use Rattle.rules.specs.declared.phase.Phase.{Phase}
+use Rattle.rules.specs.declared.phase.Phase.the-variants.{Rest, Status}
 use Rattle.rules.specs.declared.unit.Port.{Port}
 use Rattle.rules.specs.declared.unit.Core.{Core}
 use Rattle.rules.specs.declared.unit.Unit.{Unit}
 use Rattle.rules.specs.Drive.{freshDrive, wasReset}
+use Rattle.rules.specs.Phase.{reportSize}
 
 -- What is lent to a step: the staging block, and the tape of each drive.
 pub record Lent : Type 0 where
@@ -25,13 +26,6 @@ pub record Lent : Type 0 where
 
 abbrev pub lent : List ℕ → List ℕ → List ℕ → List ℕ → List ℕ → Lent
 lent g a b c d = record { staging = g; tape0 = a; tape1 = b; tape2 = c; tape3 = d }
-
--- The last place of a block, counted from 0; the octets of a report.
-abbrev pub lastPlace : ℕ
-lastPlace = 511
-
-abbrev pub reportSize : ℕ
-reportSize = 6
 
 -- The staging block has 512 bytes, as its type says.
 abbrev pub Whole : Lent → Type 0

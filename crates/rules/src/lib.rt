@@ -3,6 +3,7 @@ mod answer;
 mod drive;
 mod event;
 mod order;
+mod phase;
 mod unit;
 
 pub use answer::Answer;
@@ -22,11 +23,14 @@ pub use order::Checked;
 pub use order::Fault;
 pub use order::Needs;
 pub use order::Order;
+pub use phase::Phase;
 pub use unit::Core;
 pub use unit::Moved;
-pub use unit::Phase;
 pub use unit::Port;
 pub use unit::Unit;
+
+// The last place of a block, counted from 0.
+pub const LAST_PLACE: usize = tape::BODY - 1;
 
 // The octets of one report.
 pub const OCTETS: usize = 6;
@@ -36,9 +40,7 @@ pub const KEPT: usize = 1028;
 
 pub const WRITE_ROOM: usize = tape::BLOCK_SIZE + KEPT;
 
-// The longest tape, the furthest head, and the highest count.
-pub const LONGEST: usize = 16777216;
-
+// The highest count.
 pub const HIGHEST: u16 = 65535;
 
 // Octet 0, bit 7 down.

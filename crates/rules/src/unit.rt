@@ -3,15 +3,8 @@ ghost use mathlib.Core.Path.{_≡_};
 ghost use Rattle.rules.specs.Unit.{atPhase, atLevel, atDrive, showing, resetPort, freshPort, driveAt, putDrive, freshCore, resetCore, freshUnit, resetUnit};
 use crate::OCTETS;
 use crate::drive::Drive;
+use crate::phase::Phase;
 use tape::BODY;
-
-// Rest; n bytes of a block given by the host; n bytes of a block handed out; k octets outstanding.
-pub enum Phase {
-    Rest,
-    Taking(usize),
-    Giving(usize),
-    Status(usize),
-}
 
 // Small enough that what a step hands back has 128 bytes: above that a copy is a call.
 pub struct Port {

@@ -9,7 +9,8 @@ use lib.Dec.{leb}
 use borrow.Author.Tests.{leb-true, leb-false}
 use Rattle.tape.specs.declared.record.Made.{Made}
 use Rattle.tape.specs.declared.record.Made.the-variants.{Next, NoRoom}
-use Rattle.tape.specs.Choice.{pick}
+use Rattle.basis.specs.Choice.{pick}
+use Rattle.basis.specs.Tests.{same}
 use Rattle.tape.specs.Recording.{Written, written, writtenAt, recorded}
 use Rattle.tape.specs.Laws.{WasMade, NotMade, NextMeans, NoRoomMeans}
 use Rattle.tape.specs.Outcomes.{OneOutcome}
@@ -39,9 +40,6 @@ no-room-means t h n spare rec t′ e = go (leb (h + (n + spare)) (length t)) ref
     go true r q = absurd (clash (h + n) (sym (ap (λ (w : Written). w .made) q)))
     go false r q = record { full = leb-false _ _ r; tape-is = ap (λ (w : Written). w .tape) q }
 
-same : {A : Type 0} {x r r′ : A} → r ≡ x → r′ ≡ x → r ≡ r′
-same p q = p ∙ sym q
-
 same-written : {x : Written} {r r′ : Made} {t′ t″ : List ℕ} → written r t′ ≡ x → written r′ t″ ≡ x → (r ≡ r′) × (t′ ≡ t″)
 same-written p q = let e = same p q in (ap (λ (w : Written). w .made) e, ap (λ (w : Written). w .tape) e)
 
@@ -52,6 +50,7 @@ one-outcome =
       has-room = λ h n l r r′ p q. same p q;
       record-mark = λ t h r r′ t′ t″ p q. same-written p q;
       record-block = λ t h body spare r r′ t′ t″ p q. same-written p q;
+      pass-marks = λ t h n r r′ p q. same p q;
       pass-to-mark = λ t h r r′ p q. same p q;
       erase = λ t t′ t″ p q. same p q;
     }

@@ -10,7 +10,7 @@ use lib.Seq.{take-all, take-at, drop-at, paste}
 use lib.Dec.{leb}
 use borrow.Author.Tests.{leb-true, leb-false, le-leb, lt-leb}
 use Rattle.tape.specs.declared.record.Made.the-variants.{Next, NoRoom}
-use Rattle.tape.specs.Choice.{pick}
+use Rattle.basis.specs.Choice.{pick}
 use Rattle.tape.specs.Record.{markRecord, blockRecord}
 use Rattle.tape.specs.Recording.{endedAt, putIn, recorded, written, writtenAt}
 

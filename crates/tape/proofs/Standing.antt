@@ -10,7 +10,7 @@ use borrow.Author.Tests.{ltb-true, ltb-false, leb-true, leb-false, eqb-true, eqb
 use Rattle.tape.specs.declared.found.Found.{Found}
 use Rattle.tape.specs.declared.found.Found.the-variants.{Block, Mark, Stop}
 use Rattle.tape.specs.declared.found.Why.the-variants.{End, Unknown, Bad}
-use Rattle.tape.specs.Choice.{pick}
+use Rattle.basis.specs.Choice.{pick}
 use Rattle.tape.specs.Record.{ofKind, foundAt}
 use Rattle.tape.specs.Laws.{Stands, whole-block, one-mark, end-kind, tape-end, other-kind, cut-block, off-tape, CaseFound, FoundCase, BlockFits, MarkFits}
 

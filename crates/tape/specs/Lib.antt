@@ -1,4 +1,3 @@
-pub mod Choice
 pub mod Record
 pub mod Recording
 pub mod Walk

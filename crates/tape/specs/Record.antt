@@ -7,7 +7,11 @@ use lib.Dec.{ltb, leb, eqb}
 use Rattle.tape.specs.declared.found.Found.{Found}
 use Rattle.tape.specs.declared.found.Found.the-variants.{Block, Mark, Stop}
 use Rattle.tape.specs.declared.found.Why.the-variants.{End, Unknown, Bad}
-use Rattle.tape.specs.Choice.{pick}
+use Rattle.basis.specs.Choice.{pick}
+
+-- The longest tape.
+abbrev pub longest : ℕ
+longest = 16777216
 
 -- Kind 00, no body: end of data.
 abbrev pub endKind : ℕ

@@ -5,7 +5,7 @@ use lib.ListN.{length, take, drop, replicate}
 use lib.Dec.{leb}
 use Rattle.tape.specs.declared.record.Made.{Made}
 use Rattle.tape.specs.declared.record.Made.the-variants.{Next, NoRoom}
-use Rattle.tape.specs.Choice.{pick}
+use Rattle.basis.specs.Choice.{pick}
 use Rattle.tape.specs.Record.{endKind, markSize, blockSize, markRecord, blockRecord}
 
 -- What comes after a record: one 00 at its front, if there is a byte.

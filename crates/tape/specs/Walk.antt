@@ -1,7 +1,6 @@
 -- The one walk over records, and what is read off it by whoever passes records.
 use Prim.Native.Nat.{ℕ, zero, suc, _+_}
 use mathlib.Core.List.{List}
-use mathlib.Core.Path.{_≡_}
 use lib.ListN.{length}
 use Rattle.tape.specs.declared.found.Found.{Found}
 use Rattle.tape.specs.declared.found.Found.the-variants.{Block, Mark, Stop}
@@ -9,6 +8,7 @@ use Rattle.tape.specs.declared.found.Why.{Why}
 use Rattle.tape.specs.declared.found.Why.the-variants.{Bad}
 use Rattle.tape.specs.declared.pass.Passed.{Passed}
 use Rattle.tape.specs.declared.pass.Passed.the-variants.{Past, Stopped}
+use Rattle.tape.specs.declared.pass.Way.{Way}
 use Rattle.tape.specs.Record.{foundAt, markSize, blockSize}
 
 -- The records from an offset on, each with its offset, and where and why there is no next one.
@@ -40,7 +40,13 @@ pastMarks (suc n) (block h r) = pastMarks (suc n) r
 pastMarks (suc n) (mark h r) = pastMarks n r
 pastMarks (suc n) (stop h w) = Stopped h w
 
--- How many records are passed on that way.
+-- How many marks, and how many records, are passed on that way.
+abbrev pub marksPast : ℕ → Trail → ℕ
+marksPast zero r = 0
+marksPast (suc n) (block h r) = marksPast (suc n) r
+marksPast (suc n) (mark h r) = suc (marksPast n r)
+marksPast (suc n) (stop h w) = 0
+
 abbrev pub recordsPast : ℕ → Trail → ℕ
 recordsPast zero r = 0
 recordsPast (suc n) (block h r) = suc (recordsPast (suc n) r)
@@ -56,7 +62,6 @@ abbrev pub endOf : Passed → ℕ
 endOf (Past at) = at
 endOf (Stopped at w) = at
 
--- What a way past n marks from offset h hands back: where it ended, and how many records it passed.
-pub record Passes (t : List ℕ) (h n : ℕ) (end : Passed) (records : ℕ) : Type 0 where
-  pub ends : end ≡ pastMarks n (trail t h)
-  pub counts : records ≡ recordsPast n (trail t h)
+-- THE WAY from offset h past the next n marks: where it ended, and the marks and the records that it passed.
+abbrev pub wayPast : List ℕ → ℕ → ℕ → Way
+wayPast t h n = record { end = pastMarks n (trail t h); marks = marksPast n (trail t h); records = recordsPast n (trail t h) }

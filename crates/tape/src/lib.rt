@@ -7,6 +7,8 @@ pub use found::Found;
 pub use found::Why;
 pub use found::found_at;
 pub use pass::Passed;
+pub use pass::Way;
+pub use pass::pass_marks;
 pub use pass::pass_to_mark;
 pub use record::Made;
 pub use record::erase;
@@ -27,3 +29,6 @@ pub const BODY: usize = 512;
 pub const BLOCK_SIZE: usize = 513;
 
 pub const MARK_SIZE: usize = 1;
+
+// The longest tape.
+pub const LONGEST: usize = 16777216;

@@ -1,6 +1,6 @@
 // Passing records.
 ghost use mathlib.Core.Path.{_≡_};
-ghost use Rattle.tape.specs.Walk.{Passes, passed};
+ghost use Rattle.tape.specs.Walk.{passed, wayPast};
 use crate::BLOCK_SIZE;
 use crate::MARK_SIZE;
 use crate::found::Found;
@@ -13,15 +13,16 @@ pub enum Passed {
     Stopped(usize, Why),
 }
 
-// A way over the tape: where it ended, and how many records it passed.
-struct Way {
-    end: Passed,
-    records: usize,
+// A way over the tape: where it ended, and how many marks and how many records it passed.
+pub struct Way {
+    pub end: Passed,
+    pub marks: usize,
+    pub records: usize,
 }
 
 // The one walk: from the head past the next marks, however many are asked for.
-fn pass(tape: &[u8], head: usize, marks: usize) -> Way
-    ensures { λ r. ⌜ Passes (now (tape .entry)) head marks (r .end) (r .records) ⌝ }
+pub fn pass_marks(tape: &[u8], head: usize, marks: usize) -> Way
+    ensures { λ r. ⌜ r ≡ wayPast (now (tape .entry)) head marks ⌝ }
 {
     let mut at = head;
     let mut left = marks;
@@ -41,6 +42,7 @@ fn pass(tape: &[u8], head: usize, marks: usize) -> Way
             Found::Stop(why) => {
                 return Way {
                     end: Passed::Stopped(at, why),
+                    marks: marks - left,
                     records,
                 };
             }
@@ -48,6 +50,7 @@ fn pass(tape: &[u8], head: usize, marks: usize) -> Way
     }
     Way {
         end: Passed::Past(at),
+        marks,
         records,
     }
 }
@@ -56,6 +59,6 @@ fn pass(tape: &[u8], head: usize, marks: usize) -> Way
 pub fn pass_to_mark(tape: &[u8], head: usize) -> Passed
     ensures { λ r. ⌜ r ≡ passed (now (tape .entry)) head ⌝ }
 {
-    let way = pass(tape, head, 1);
+    let way = pass_marks(tape, head, 1);
     way.end
 }

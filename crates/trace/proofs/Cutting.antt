@@ -7,10 +7,10 @@ use native.Mathlib.Omega.{arith}
 use lib.Dec.{leb, eqb}
 use lib.ListN.{length, getD, take, drop, length-drop}
 use borrow.Author.Tests.{leb-true, eqb-false, eq-eqb, ne-eqb}
-use Rattle.tape.specs.Choice.{pick}
+use Rattle.basis.specs.Choice.{pick}
 use Rattle.trace.specs.declared.cut.Cut.the-variants.{Whole, UnknownKind, CutOff, NoneLeft}
 use Rattle.trace.specs.Cut.{kindSize, cutBy, cutOf, answered, nextSize, eventsBy, eventsOf}
-use Rattle.trace.proofs.Choosing.{elim-true, elim-false}
+use Rattle.basis.proofs.Choosing.{elim-true, elim-false}
 
 some : (n : ℕ) → eqb n 0 ≡ false → 1 ≤ n
 some n p = let q = eqb-false n 0 p in omega arith

@@ -10,7 +10,7 @@ use lib.ListN.{length, take, drop, getD, set, length-drop}
 use lib.Seq.{length-take-le, getD-append-add, getD-drop, drop-cons, set-at, append-snoc, take-suc}
 use borrow.Author.Tests.{leb-true}
 use Rattle.trace.specs.Rest.{movedFront}
-use Rattle.trace.proofs.Choosing.{both}
+use Rattle.basis.proofs.Choosing.{both}
 
 pub front-start : (b : List ℕ) (from : ℕ) → b ≡ movedFront b from 0
 unfolding movedFront

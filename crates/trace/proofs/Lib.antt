@@ -1,7 +1,4 @@
 pub mod Answers
-mod Choosing
-mod Digits
-mod Placing
 mod Cutting
 mod Turning
 mod Playing
@@ -10,3 +7,4 @@ pub mod Piecewise
 pub mod Forms
 pub mod Firsts
 pub mod Sampled
+mod Lengths

@@ -8,7 +8,7 @@ use lib.Dec.{leb, eqb}
 use lib.ListN.{length, take, drop, getD, length-drop, length-append}
 use lib.Seq.{take-append-le, drop-append-le, length-take-le, drop-drop}
 use borrow.Author.Tests.{leb-true, le-leb, ne-eqb, eqb-true, eqb-false}
-use Rattle.tape.specs.Choice.{pick}
+use Rattle.basis.specs.Choice.{pick}
 use Rattle.rules.specs.Run.{World, after, turnOf}
 use Rattle.trace.specs.declared.cut.Cut.the-variants.{Whole, UnknownKind, CutOff, NoneLeft}
 use Rattle.trace.specs.declared.run.Halt.{Halt}

@@ -14,11 +14,12 @@ use Rattle.trace.specs.declared.run.Halt.{Halt}
 use Rattle.trace.specs.declared.run.Halt.the-variants.{InputOut, RoomOut, Stopped}
 use Rattle.trace.specs.declared.run.Played.{Played}
 use Rattle.trace.specs.Cut.{nextSize, eventsOf}
-use Rattle.trace.specs.Line.{lineSize, placed}
+use Rattle.basis.specs.Placed.{placed}
+use Rattle.trace.specs.Line.{lineSize}
 use Rattle.trace.specs.Play.{hasRoom, lineIn, stops, Run, still, since, play, Left, leaves, left, Plays, Turned, turn}
-use Rattle.trace.proofs.Choosing.{elim-true, elim-false}
-use Rattle.trace.proofs.Digits.{line-length}
-use Rattle.trace.proofs.Placing.{placed-length, take-placed, drop-placed}
+use Rattle.basis.proofs.Choosing.{elim-true, elim-false}
+use Rattle.trace.proofs.Lengths.{line-length}
+use Rattle.basis.proofs.Placing.{placed-length, take-placed, drop-placed}
 use Rattle.trace.proofs.Cutting.{next-inside, events-none, events-next}
 use Rattle.trace.proofs.Turning.{room-fits}
 

@@ -1,6 +1,6 @@
 -- Document 01's sample, by computing it.
 use mathlib.Core.Path.{refl}
-use Rattle.tape.specs.Choice.{pick}
+use Rattle.basis.specs.Choice.{pick}
 use Rattle.tape.specs.Record.{ofKind, foundAt}
 use Rattle.rules.specs.Drive.{counted}
 use Rattle.rules.specs.Unit.{oneOf, putAt, putLast}
@@ -14,7 +14,8 @@ use Rattle.rules.specs.Bytes.{octetTaken}
 use Rattle.rules.specs.Step.{stepBy, stepOf}
 use Rattle.rules.specs.Run.{after, turnOf}
 use Rattle.trace.specs.Cut.{kindSize, cutBy, cutOf, nextSize, eventsOf}
-use Rattle.trace.specs.Line.{digit, decimal, orDash, fieldsOf, lineOf}
+use Rattle.basis.specs.Text.{digit, decimal}
+use Rattle.trace.specs.Line.{orDash, fieldsOf, lineOf}
 use Rattle.trace.specs.Play.{lineIn, stops}
 use Rattle.trace.specs.Sample.{SampleTold}
 

@@ -4,7 +4,7 @@ use mathlib.Core.Bool.{Bool, true, false, _&&_}
 use mathlib.Core.List.{List, [], _∷_}
 use lib.ListN.{length, getD, take, drop}
 use lib.Dec.{leb, eqb}
-use Rattle.tape.specs.Choice.{pick}
+use Rattle.basis.specs.Choice.{pick}
 use Rattle.trace.specs.declared.cut.Cut.{Cut}
 use Rattle.trace.specs.declared.cut.Cut.the-variants.{Whole, UnknownKind, CutOff, NoneLeft}
 

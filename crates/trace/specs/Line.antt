@@ -1,10 +1,12 @@
 -- One answered event as a line: number, answer, lines, byte, each byte of it.
-use Prim.Native.Nat.{ℕ, zero, suc, _+_, _-_, _/_, _%_}
-use mathlib.Core.Bool.{Bool, true, false}
+use Prim.Native.Nat.{ℕ, _+_}
+use mathlib.Core.Bool.{Bool}
 use mathlib.Core.List.{List, [], _∷_, _++_}
-use lib.ListN.{length, take, drop}
-use lib.Dec.{ltb, leb}
-use Rattle.tape.specs.Choice.{pick}
+use lib.ListN.{length}
+use lib.Dec.{leb}
+use Rattle.basis.specs.Choice.{pick}
+use Rattle.basis.specs.Placed.{placed}
+use Rattle.basis.specs.Text.{digit, highDigit, lowDigit, decimal}
 use Rattle.rules.specs.declared.answer.Answer.{Answer}
 use Rattle.rules.specs.declared.answer.Lines.{Lines}
 use Rattle.rules.specs.Answer.{rowOf}
@@ -21,12 +23,6 @@ space = 32
 abbrev pub dash : ℕ
 dash = 45
 
-abbrev pub digit0 : ℕ
-digit0 = 48
-
-abbrev pub letterA : ℕ
-letterA = 65
-
 abbrev pub letterD : ℕ
 letterD = 68
 
@@ -35,19 +31,6 @@ letterE = 69
 
 abbrev pub letterR : ℕ
 letterR = 82
-
--- A digit below 16: 0 to 9, then upper-case A to F.
-unfoldable pub digit : ℕ → ℕ
-digit d = pick (ltb d 10) (digit0 + d) (letterA - 10 + d)
-
--- A number in decimal, the highest digit first: the digits of a tenth of it, then its last. It has no more digits than fuel suc n.
-abbrev pub digitsBy : ℕ → ℕ → List ℕ
-digitsBy zero n = []
-digitsBy (suc fuel) n =
-    elim (ltb n 10) [ true ↦ digit n ∷ [] | false ↦ digitsBy fuel (n / 10) ++ (digit (n % 10) ∷ []) ]
-
-unfoldable pub decimal : ℕ → List ℕ
-decimal n = digitsBy (suc n) n
 
 -- A character where something is so, else a dash.
 unfoldable pub orDash : Bool → ℕ → ℕ
@@ -58,7 +41,7 @@ unfoldable pub fieldsOf : Answer → Lines → Bool → ℕ → List ℕ
 fieldsOf a l given b =
     space ∷ digit (rowOf a .number)
     ∷ space ∷ orDash (l .ready) letterR ∷ orDash (l .exception) letterE ∷ orDash (l .direction) letterD
-    ∷ space ∷ orDash given (digit (b / 16)) ∷ orDash given (digit (b % 16))
+    ∷ space ∷ orDash given (highDigit b) ∷ orDash given (lowDigit b)
     ∷ newline ∷ []
 
 abbrev pub fieldsSize : ℕ
@@ -70,10 +53,6 @@ lineOf n a l given b = decimal n ++ fieldsOf a l given b
 -- The bytes that the line of event n takes.
 unfoldable pub lineSize : ℕ → ℕ
 lineSize n = length (decimal n) + fieldsSize
-
--- A buffer with these bytes put at an offset, and nothing else changed.
-unfoldable pub placed : List ℕ → ℕ → List ℕ → List ℕ
-placed o at l = take at o ++ l ++ drop (at + length l) o
 
 -- What an order to show a line hands back: the answer, and the buffer as it is left.
 pub record Page : Type 0 where

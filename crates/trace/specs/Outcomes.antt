@@ -10,12 +10,13 @@ use Rattle.rules.specs.Unit.{Lent}
 use Rattle.trace.specs.declared.cut.Cut.{Cut}
 use Rattle.trace.specs.declared.line.Shown.{Shown}
 use Rattle.trace.specs.declared.run.Played.{Played}
-use Rattle.trace.specs.Cut.{cutOf}
+use Rattle.trace.specs.Cut.{kindSize, cutOf}
 use Rattle.trace.specs.Line.{lineOf, page, shownAt}
 use Rattle.trace.specs.Play.{Plays}
 use Rattle.trace.specs.Rest.{Keeps}
 
 pub record OneOutcome : Type 0 where
+  pub kind-size : (k r r′ : ℕ) → r ≡ kindSize k → r′ ≡ kindSize k → r ≡ r′
   pub next-event : (l : List ℕ) (r r′ : Cut) → r ≡ cutOf l → r′ ≡ cutOf l → r ≡ r′
   pub show-line : (o : List ℕ) (at n : ℕ) (a : Answer) (l : Lines) (given : Bool) (b : ℕ) (r r′ : Shown) (o′ o″ : List ℕ)
       → page r o′ ≡ shownAt o at (lineOf n a l given b) → page r′ o″ ≡ shownAt o at (lineOf n a l given b) → (r ≡ r′) × (o′ ≡ o″)

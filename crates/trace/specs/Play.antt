@@ -16,7 +16,8 @@ use Rattle.trace.specs.declared.run.Halt.the-variants.{InputOut, RoomOut
 use Rattle.trace.specs.declared.run.Played.{Played}
 use Rattle.trace.specs.declared.run.Answered.{Answered}
 use Rattle.trace.specs.Cut.{eventsOf}
-use Rattle.trace.specs.Line.{lineOf, lineSize, placed}
+use Rattle.basis.specs.Placed.{placed}
+use Rattle.trace.specs.Line.{lineOf, lineSize}
 
 -- The highest number of an event: that of 64 bits.
 abbrev pub lastNumber : ℕ

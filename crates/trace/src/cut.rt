@@ -1,6 +1,7 @@
 // The one cutting of a raw trace into events: the kind fixes how long an event is.
 ghost use mathlib.Core.Path.{_≡_};
-ghost use Rattle.trace.specs.Cut.{kindSize, cutOf, nextSize};
+ghost use Prim.Native.Nat.{_≤_};
+ghost use Rattle.trace.specs.Cut.{bodiedSize, kindSize, cutOf, nextSize};
 
 // The kinds are 01 to 0A; those from 03 to 06 have no body, the others one of one byte.
 const FIRST_KIND: u8 = 0x01;
@@ -25,8 +26,8 @@ pub enum Cut {
 }
 
 // The bytes of an event of this kind; 0 if the kind is unknown.
-fn kind_size(kind: u8) -> usize
-    ensures { λ r. ⌜ r ≡ kindSize kind ⌝ }
+pub fn kind_size(kind: u8) -> usize
+    ensures { λ r. ⌜ (r ≡ kindSize kind) × (r ≤ bodiedSize) ⌝ }
 {
     if (FIRST_BARE <= kind) & (kind <= LAST_BARE) {
         return BARE_SIZE;

@@ -2,15 +2,16 @@
 ghost use mathlib.Core.Path.{_≡_};
 ghost use Prim.Native.Nat.{_+_, _≤_};
 ghost use lib.ListN.{length};
-ghost use Rattle.trace.specs.Line.{orDash, fieldsOf, lineOf, lineSize, placed, page, shownAt};
-use crate::number::digit;
-use crate::number::places;
-use crate::number::put_number;
+ghost use Rattle.basis.specs.Placed.{placed};
+ghost use Rattle.trace.specs.Line.{orDash, fieldsOf, lineOf, lineSize, page, shownAt};
+use basis::digit;
+use basis::high_digit;
+use basis::low_digit;
+use basis::places;
+use basis::put;
+use basis::put_number;
 use rules::Answer;
 use rules::Lines;
-
-// The base of a byte's digits.
-const SIXTEEN: u8 = 16;
 
 const DASH: u8 = b'-';
 
@@ -44,9 +45,9 @@ fn or_dash(b: bool, character: u8) -> u8
 fn fields(answer: Answer, lines: Lines, given: bool, byte: u8) -> [u8; FIELDS]
     ensures { λ r. ⌜ r ≡ fieldsOf answer lines given byte ⌝ }
 {
-    let number = digit(unit::number(answer));
-    let high = digit(byte / SIXTEEN);
-    let low = digit(byte % SIXTEEN);
+    let number = digit(answer.number());
+    let high = high_digit(byte);
+    let low = low_digit(byte);
     [
         SPACE,
         number,
@@ -59,18 +60,6 @@ fn fields(answer: Answer, lines: Lines, given: bool, byte: u8) -> [u8; FIELDS]
         or_dash(given, low),
         NEWLINE,
     ]
-}
-
-// These bytes at an offset of the buffer.
-fn put(out: &mut [u8], at: usize, bytes: &[u8])
-    requires { ⌜ at + length (now bytes) ≤ length (now out) ⌝ }
-    ensures { λ _. ⌜ now (out .exit) ≡ placed (now (out .entry)) at (now (bytes .entry)) ⌝ }
-{
-    let mut i: usize = 0;
-    while i < bytes.len() {
-        out[at + i] = bytes[i];
-        i += 1;
-    }
 }
 
 // A line that has room, and the offset just past it.

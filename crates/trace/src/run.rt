@@ -9,7 +9,7 @@ ghost use Rattle.trace.specs.Play.{hasRoom, stops, turned, turn, Plays};
 use crate::cut::next_size;
 use crate::line::FIELDS;
 use crate::line::put_line;
-use crate::number::places;
+use basis::places;
 use rules::Answer;
 use rules::Core;
 use tape::BODY;
@@ -56,7 +56,7 @@ fn has_room(room: usize, full: usize, count: u64) -> bool
 fn stops(answer: Answer) -> bool
     ensures { λ r. ⌜ r ≡ stops answer ⌝ }
 {
-    unit::number(answer) == STOP
+    answer.number() == STOP
 }
 
 // One event answered, and its line written where the output ends.

@@ -10,25 +10,25 @@ use Rattle.rules.specs.Event.{eventOf}
 use Rattle.rules.specs.Answer.{rowOf}
 use Rattle.rules.specs.Step.{Stepped, stepped, Steps}
 use Rattle.rules.specs.Run.{World, world}
-use Rattle.rules.specs.Reach.{Reading, realChange, anyLevel, Gave, reachesBy, gaveBy, keptIf, reaches, gave, reached, given}
+use Rattle.rules.specs.Reach.{Change, realChange, anyLevel, Gave, reachesBy, gaveBy, onlyIf, reaches, gave, reached, given}
 use Rattle.rules.specs.Promises.Demand3.{Demand3For}
 use Rattle.rules.specs.Promises.Refused.{AsFound}
 use Rattle.rules.proofs.Refused.{refused-keeps}
 use Rattle.rules.proofs.Demand3.{demand-3, demand-3-any-level}
-use Rattle.unit.specs.Runs.{Ran, no-event, next}
+use Rattle.rules.specs.Ran.{Ran, no-event, next}
 use Rattle.unit.specs.Demands.{reachedIn, gaveIn, OneDrive, DemandsHold}
-use Rattle.unit.proofs.Runs.{steps-are-the-books, runs-are-the-books}
+use Rattle.rules.proofs.Ran.{steps-are-the-books, runs-are-the-books}
 
 refused : (c : Core) (l : Lent) (event : List ℕ) (r : Turn) (l′ : Lent) → Steps c l event r l′ → rowOf (r .answer) .refuses ≡ true → AsFound c l (stepped r l′)
 refused c l event r l′ p h =
     rw (p .is) (refused-keeps c l event (ap (λ (s : Stepped). rowOf (s .turn .answer) .refuses) (sym (p .is)) ∙ h))
 
 -- what a run of the step shows of a drive is what the book's shows
-record Seen (k : Reading) (d : ℕ) (w : World) (es : List (List ℕ)) (rs : List Turn) : Type 0 where
+record Seen (k : Change) (d : ℕ) (w : World) (es : List (List ℕ)) (rs : List Turn) : Type 0 where
   reached-is : reachedIn k d (w .core) es rs ≡ reached k d w es
   gave-is : gaveIn k d (w .core) es rs ≡ given k d w es
 
-seen : (k : Reading) (d : ℕ) (w w′ : World) (es : List (List ℕ)) (rs : List Turn) → Ran w es rs w′ → Seen k d w es rs
+seen : (k : Change) (d : ℕ) (w w′ : World) (es : List (List ℕ)) (rs : List Turn) → Ran w es rs w′ → Seen k d w es rs
 unfolding reaches gave
 seen k d w w′ [] [] no-event = record { reached-is = refl; gave-is = refl }
 seen k d w w′ (e ∷ es) (r ∷ rs) (next {c} {l} {l′} p q) =
@@ -37,14 +37,14 @@ seen k d w w′ (e ∷ es) (r ∷ rs) (next {c} {l} {l′} p q) =
     let here : Turn → Bool = λ t. reachesBy k d (c .port .selected) (c .port .online) (t .answer) (eventOf e) in
     record {
       reached-is =
-          ap (λ (x : List (List ℕ)). keptIf (here r) e x) (rest .reached-is)
-          ∙ ap₂ (λ (t : Turn) (v : World). keptIf (here t) e (reached k d v es)) (sym (one .answered)) (sym (one .left));
+          ap (λ (x : List (List ℕ)). onlyIf (here r) e x) (rest .reached-is)
+          ∙ ap₂ (λ (t : Turn) (v : World). onlyIf (here t) e (reached k d v es)) (sym (one .answered)) (sym (one .left));
       gave-is =
-          ap (λ (x : List Gave). keptIf (here r) (gaveBy d (c .port .selected) (eventOf e) r) x) (rest .gave-is)
-          ∙ ap₂ (λ (t : Turn) (v : World). keptIf (here t) (gaveBy d (c .port .selected) (eventOf e) t) (given k d v es)) (sym (one .answered)) (sym (one .left));
+          ap (λ (x : List Gave). onlyIf (here r) (gaveBy d (c .port .selected) (eventOf e) r) x) (rest .gave-is)
+          ∙ ap₂ (λ (t : Turn) (v : World). onlyIf (here t) (gaveBy d (c .port .selected) (eventOf e) t) (given k d v es)) (sym (one .answered)) (sym (one .left));
     }
 
-one-drive : (k : Reading) → Demand3For k → OneDrive k
+one-drive : (k : Change) → Demand3For k → OneDrive k
 one-drive k book d d3 a b c e a′ b′ c′ e′ h h′ t es es′ rs rs′ w w′ p p′ same =
     let x = seen k d _ w es rs p in
     let x′ = seen k d _ w′ es′ rs′ p′ in

@@ -3,55 +3,57 @@ use Prim.Native.Nat.{ℕ, _+_, _<_}
 use mathlib.Core.Path.{_≡_, refl, sym, ap, ap₂, _∙_}
 use mathlib.Core.Bool.{Bool, true, false, not, _&&_, _||_, false≢true}
 use mathlib.Core.List.{List}
-use native.Mathlib.Omega.{arith}
+use native.Mathlib.Nat.{not-suc-le-zero}
 use lib.ListN.{length, getD}
-use lib.Dec.{eqb}
-use borrow.Author.Tests.{lt-ltb, eqb-true}
-use Rattle.tape.specs.Choice.{pick}
+use lib.Dec.{ltb, eqb}
+use borrow.Author.Tests.{lt-ltb, ltb-true, eqb-true}
+use Rattle.basis.specs.Choice.{pick}
 use Rattle.tape.specs.Record.{foundAt}
 use Rattle.rules.specs.declared.drive.Drive.{Drive}
 use Rattle.rules.specs.declared.drive.Mode.{Mode}
 use Rattle.rules.specs.declared.drive.Mode.the-variants.{Idle, Writing, Reading}
-use Rattle.rules.specs.declared.unit.Phase.{Phase}
-use Rattle.rules.specs.declared.unit.Phase.the-variants.{Rest, Taking, Giving, Status}
+use Rattle.rules.specs.declared.phase.Phase.{Phase}
+use Rattle.rules.specs.declared.phase.Phase.the-variants.{Rest, Taking, Giving, Status}
 use Rattle.rules.specs.declared.unit.Core.{Core}
 use Rattle.rules.specs.declared.event.Act.{Act}
 use Rattle.rules.specs.declared.event.Act.the-variants.{Give, Take}
+use Rattle.rules.specs.declared.event.Event.{Event}
 use Rattle.rules.specs.declared.event.Event.the-variants.{Own}
 use Rattle.rules.specs.declared.answer.Answer.the-variants.{Taken}
 use Rattle.rules.specs.declared.answer.Lines.{Lines}
 use Rattle.rules.specs.declared.answer.Turn.{Turn}
 use Rattle.rules.specs.Drive.{isWriting, isReading, writes, reads}
-use Rattle.rules.specs.Unit.{Lent, driveAt, putDrive, tapeAt, putStaging, atPhase, lastPlace}
+use Rattle.rules.specs.Phase.{lastPlace, givenBefore, takenBefore, outstanding}
+use Rattle.rules.specs.Unit.{Lent, driveAt, putDrive, tapeAt, putStaging, atPhase}
 use Rattle.rules.specs.Lines.{linesAt, linesOf}
 use Rattle.rules.specs.Refusal.{possible, short, inStepAt}
 use Rattle.rules.specs.Edge.{isBlock}
 use Rattle.rules.specs.Effect.{seat, acted}
 use Rattle.rules.specs.Bytes.{handed, octetPlace, afterOctet, octetTaken}
 use Rattle.rules.specs.Event.{bareEvent, bodiedEvent, eventOf}
-use Rattle.rules.specs.Step.{staged, act, stepped, done, landed, Steps}
-use Rattle.rules.proofs.Bools.{both}
-use Rattle.rules.proofs.Places.{put-back}
+use Rattle.rules.specs.Step.{staged, stagedIn, act, stepped, done, takenTurn, landed, Steps}
+use Rattle.basis.proofs.Choosing.{both}
+use Rattle.rules.proofs.Places.{put-back, tape-back}
 use Rattle.unit.specs.declared.within.Next.{Next}
-use Rattle.unit.specs.Meant.{settledBy, takenTurn}
-use Rattle.unit.specs.Within.{underWay, beingRead, outstanding, onlyAt, givenPlace, takenPlace, octetsLeft, bodyOf, nextOf, movedTo, movedOn}
-use Rattle.unit.proofs.Settling.{tape-back, steps-by}
+use Rattle.unit.specs.Within.{nextOf, PhaseMoves}
+use Rattle.answers.specs.declared.looks.Seen.{Seen}
+use Rattle.answers.specs.Looks.{lookOf}
+use Rattle.answers.specs.Moved.{movedTo, movedOn}
+use Rattle.answers.specs.Place.{within, onlyAt, givenPlace, takenPlace, octetsLeft, bodyOf}
+use Rattle.answers.specs.Settled.{settledBy}
+use Rattle.unit.proofs.Settling.{steps-by}
 
 -- putting back the record that is there changes nothing
 drive-back : (c : Core) (ph : Phase) (i : ℕ) → putDrive c (atPhase ph (c .port)) i (driveAt c i) ≡ movedTo c ph
 drive-back c ph i =
-    put-back (λ (w x y z : Drive). record { port = atPhase ph (c .port); drive0 = w; drive1 = x; drive2 = y; drive3 = z }) i (c .drive0) (c .drive1) (c .drive2) (c .drive3)
+    put-back (λ (w x y z : Drive). record { port = atPhase ph (c .port); drive0 = w; drive1 = x; drive2 = y; drive3 = z })
+    i (c .drive0) (c .drive1) (c .drive2) (c .drive3)
 
--- an act that moves the phase alone
-phase-moves : (c : Core) (l : Lent) (a : Act) (ph : Phase) (given : Bool) (b : ℕ)
-    → inStepAt (c .port .phase) (driveAt c (c .port .selected)) a ≡ true
-    → act (staged (c .port .phase) a (l .staging)) (seat (c .port) (driveAt c (c .port .selected)) (tapeAt l (c .port .selected))) a
-    ≡ acted (record { raised = false; given = given; byte = b; port = atPhase ph (c .port); drive = driveAt c (c .port .selected) }) (tapeAt l (c .port .selected))
-    → stepped (takenTurn false given b (movedTo c ph)) (putStaging l (staged (c .port .phase) a (l .staging))) ≡ settledBy c true true l (Own a)
+pub phase-moves : PhaseMoves
 unfolding pick
 phase-moves c l a ph given b fits moves =
     let i = c .port .selected in
-    let l′ = putStaging l (staged (c .port .phase) a (l .staging)) in
+    let l′ = stagedIn c a l in
     rw (fits) (sym (ap (landed c l′) moves ∙ ap₂ (λ (x : Core) (y : Lent). done false given b x y) (drive-back c ph i) (tape-back l′ i)))
 
 -- the turn of it, where the lines of the drive are known
@@ -59,70 +61,88 @@ lines-known : (c : Core) (ph : Phase) (given : Bool) (b : ℕ) (direction : Bool
     → linesAt ph (driveAt c (c .port .selected)) ≡ record { ready = false; exception = false; direction = direction }
     → movedOn c ph given b direction ≡ takenTurn false given b (movedTo c ph)
 unfolding pick linesOf
-lines-known c ph given b direction e = ap (λ (x : Lines). record { answer = Taken; given = given; byte = b; lines = x; core = movedTo c ph }) (sym e)
+lines-known c ph given b direction e =
+    ap (λ (x : Lines). record { answer = Taken; given = given; byte = b; lines = x; core = movedTo c ph }) (sym e)
 
 -- what was looked for and found tells the length and the kind
-only-there : (size kind found other : ℕ) (l : List ℕ) → (onlyAt size kind found other l ≡ other → ⊥)
-    → (length l ≡ size) × ((getD l 0 0 ≡ kind) × (onlyAt size kind found other l ≡ found))
+only-there : (size kind found : ℕ) (l : List ℕ) → 0 < onlyAt size kind found l
+    → (length l ≡ size) × ((getD l 0 0 ≡ kind) × (onlyAt size kind found l ≡ found))
 unfolding pick onlyAt
-only-there size kind found other l some = go (eqb (length l) size) (eqb (getD l 0 0) kind) refl refl
+only-there size kind found l some = go (eqb (length l) size) (eqb (getD l 0 0) kind) refl refl
   where
     go : (long first : Bool) → eqb (length l) size ≡ long → eqb (getD l 0 0) kind ≡ first
-        → (length l ≡ size) × ((getD l 0 0 ≡ kind) × (onlyAt size kind found other l ≡ found))
+        → (length l ≡ size) × ((getD l 0 0 ≡ kind) × (onlyAt size kind found l ≡ found))
     go true true p q = (eqb-true (length l) size p, (eqb-true (getD l 0 0) kind q, rw (p, q) refl))
-    go true false p q = absurd (some (rw (p, q) refl))
-    go false first p q = absurd (some (rw (p) refl))
+    go true false p q = absurd (not-suc-le-zero (rw (p, q) at some))
+    go false first p q = absurd (not-suc-le-zero (rw (p) at some))
 
--- so the event and the phase are known
-given-there : (ph : Phase) (l : List ℕ) (n : ℕ) → n ≡ givenPlace ph l → n < lastPlace → (ph ≡ Taking n) × (eventOf l ≡ Own (Give (bodyOf l)))
-unfolding pick bodyOf eventOf bodiedEvent
-given-there ph l n is low =
-    let there = only-there 2 2 (underWay ph) lastPlace l (λ p. omega (arith, low, is, p)) in
-    (go ph (is ∙ there .1 .1), rw (there .0, there .1 .0) refl)
+-- a place that is found is not the last, and is the one looked for
+within-there : (n : ℕ) → 0 < within n → (within n ≡ n) × (n < lastPlace)
+unfolding pick within
+within-there n some = go (ltb n lastPlace) refl some
   where
-    go : (ph : Phase) → n ≡ underWay ph → ph ≡ Taking n
-    go (Taking m) e = ap Taking (sym e)
-    go Rest e = absurd (omega (arith, low, e))
-    go (Giving m) e = absurd (omega (arith, low, e))
-    go (Status k) e = absurd (omega (arith, low, e))
+    go : (b : Bool) → ltb n lastPlace ≡ b → 0 < pick b n 0 → (pick b n 0 ≡ n) × (n < lastPlace)
+    go true e h = (refl, ltb-true n lastPlace e)
+    go false e h = absurd (not-suc-le-zero h)
+
+-- a count that is not 0 tells the phase
+given-taking : (ph : Phase) → 0 < givenBefore ph → ph ≡ Taking (givenBefore ph)
+given-taking (Taking n) some = refl
+given-taking Rest some = absurd (not-suc-le-zero some)
+given-taking (Giving n) some = absurd (not-suc-le-zero some)
+given-taking (Status k) some = absurd (not-suc-le-zero some)
+
+taken-giving : (ph : Phase) → 0 < takenBefore ph → ph ≡ Giving (takenBefore ph)
+taken-giving Rest some = absurd (not-suc-le-zero some)
+taken-giving (Taking n) some = absurd (not-suc-le-zero some)
+taken-giving (Giving n) some = refl
+taken-giving (Status k) some = absurd (not-suc-le-zero some)
+
+outstanding-status : (ph : Phase) → 0 < outstanding ph → ph ≡ Status (outstanding ph)
+outstanding-status Rest some = absurd (not-suc-le-zero some)
+outstanding-status (Taking n) some = absurd (not-suc-le-zero some)
+outstanding-status (Giving n) some = absurd (not-suc-le-zero some)
+outstanding-status (Status k) some = refl
+
+-- so the phase, the place and the event are known
+given-there : (ph : Phase) (l : List ℕ) (n : ℕ) → n ≡ givenPlace ph l → 0 < n → (ph ≡ Taking n) × (n < lastPlace) × (eventOf l ≡ Own (Give (bodyOf l)))
+unfolding pick bodyOf eventOf bodiedEvent
+given-there ph l n is some =
+    let there = only-there 2 2 (within (givenBefore ph)) l (rw (is) at some) in
+    let place = within-there (givenBefore ph) (rw (is ∙ there .1 .1) at some) in
+    let here : givenBefore ph ≡ n = sym (is ∙ there .1 .1 ∙ place .0) in
+    (rw (here) at (given-taking ph (rw (← here) at some)), rw (here) at (place .1), rw (there .0, there .1 .0) refl)
 
 take-there : (l : List ℕ) → length l ≡ 1 → getD l 0 0 ≡ 3 → eventOf l ≡ Own Take
 unfolding pick eventOf bareEvent
 take-there l p q = rw (p, q) refl
 
-taken-there : (ph : Phase) (l : List ℕ) (n : ℕ) → n ≡ takenPlace ph l → n < lastPlace → (ph ≡ Giving n) × (eventOf l ≡ Own Take)
-taken-there ph l n is low =
-    let there = only-there 1 3 (beingRead ph) lastPlace l (λ p. omega (arith, low, is, p)) in
-    (go ph (is ∙ there .1 .1), take-there l (there .0) (there .1 .0))
-  where
-    go : (ph : Phase) → n ≡ beingRead ph → ph ≡ Giving n
-    go (Giving m) e = ap Giving (sym e)
-    go Rest e = absurd (omega (arith, low, e))
-    go (Taking m) e = absurd (omega (arith, low, e))
-    go (Status k) e = absurd (omega (arith, low, e))
+taken-there : (ph : Phase) (l : List ℕ) (n : ℕ) → n ≡ takenPlace ph l → 0 < n → (ph ≡ Giving n) × (n < lastPlace) × (eventOf l ≡ Own Take)
+taken-there ph l n is some =
+    let there = only-there 1 3 (within (takenBefore ph)) l (rw (is) at some) in
+    let place = within-there (takenBefore ph) (rw (is ∙ there .1 .1) at some) in
+    let here : takenBefore ph ≡ n = sym (is ∙ there .1 .1 ∙ place .0) in
+    (rw (here) at (taken-giving ph (rw (← here) at some)), rw (here) at (place .1), take-there l (there .0) (there .1 .0))
 
 octet-there : (ph : Phase) (l : List ℕ) (k : ℕ) → k ≡ octetsLeft ph l → 0 < k → (ph ≡ Status k) × (eventOf l ≡ Own Take)
 octet-there ph l k is some =
-    let there = only-there 1 3 (outstanding ph) 0 l (λ p. omega (arith, some, is, p)) in
-    (go ph (is ∙ there .1 .1), take-there l (there .0) (there .1 .0))
-  where
-    go : (ph : Phase) → k ≡ outstanding ph → ph ≡ Status k
-    go (Status j) e = ap Status (sym e)
-    go Rest e = absurd (omega (arith, some, e))
-    go (Taking n) e = absurd (omega (arith, some, e))
-    go (Giving n) e = absurd (omega (arith, some, e))
+    let there = only-there 1 3 (outstanding ph) l (rw (is) at some) in
+    let here : outstanding ph ≡ k = sym (is ∙ there .1 .1) in
+    (rw (here) at (outstanding-status ph (rw (← here) at some)), take-there l (there .0) (there .1 .0))
 
 -- the lines within a block, by mode and EXCEPTION: of a drive that takes data, and of one that gives data
 abbrev lines : Bool → Bool → Bool → Lines
 lines r e d = record { ready = r; exception = e; direction = d }
 
-writing-lines : (m : Mode) (up : Bool) → (isWriting m && not up) ≡ true → lines (not up && false) up (false || (isReading m && not up)) ≡ lines false false false
+writing-lines : (m : Mode) (up : Bool) → (isWriting m && not up) ≡ true
+    → lines (not up && false) up (false || (isReading m && not up)) ≡ lines false false false
 writing-lines Writing false so = refl
 writing-lines Writing true so = absurd (false≢true so)
 writing-lines Idle up so = absurd (false≢true so)
 writing-lines Reading up so = absurd (false≢true so)
 
-reading-lines : (m : Mode) (up : Bool) → (isReading m && not up) ≡ true → lines (not up && false) up (false || (isReading m && not up)) ≡ lines false false true
+reading-lines : (m : Mode) (up : Bool) → (isReading m && not up) ≡ true
+    → lines (not up && false) up (false || (isReading m && not up)) ≡ lines false false true
 reading-lines Reading false so = refl
 reading-lines Reading true so = absurd (false≢true so)
 reading-lines Idle up so = absurd (false≢true so)
@@ -140,52 +160,50 @@ next-there d t n so = go (reads d) (isBlock (foundAt t (d .head))) refl refl
     go true false p q = absurd (false≢true (rw (p, q) at so))
     go false b p q = absurd (false≢true (rw (p) at so))
 
--- a byte given within a block, as the step finds it
-pub given-steps : (c : Core) (l : Lent) (event : List ℕ) (r : Turn) (g : List ℕ) (n : ℕ) (sound near takes : Bool)
-    → n ≡ givenPlace (c .port .phase) event → n < lastPlace → sound ≡ possible c → near ≡ short l → takes ≡ writes (driveAt c (c .port .selected))
-    → ((sound && near) && takes) ≡ true
-    → r ≡ movedOn c (Taking (n + 1)) false 0 false → g ≡ staged (c .port .phase) (Give (bodyOf event)) (l .staging)
-    → Steps c l event r (putStaging l g)
-unfolding pick
-given-steps c l event r g n sound near takes is low ok fits drive so turn put =
-    let there = given-there (c .port .phase) event n is low in
-    let free = both (sound && near) takes so in
-    let calm = both sound near (free .0) in
-    let writing : writes (driveAt c (c .port .selected)) ≡ true = sym drive ∙ free .1 in
-    let phase = there .0 in
-    let shown = lines-known c (Taking (n + 1)) false 0 false (writing-lines (driveAt c (c .port .selected) .mode) (driveAt c (c .port .selected) .exception) writing) in
-    let moves = phase-moves c l (Give (bodyOf event)) (Taking (n + 1)) false 0 (rw (phase) writing) (rw (phase, lt-ltb n lastPlace low) refl) in
-    steps-by c l event r (putStaging l g) _ (Own (Give (bodyOf event))) true true refl (there .1) (sym (calm .0) ∙ ok) (sym (calm .1) ∙ fits)
-    (ap₂ (λ (x : Turn) (y : List ℕ). stepped x (putStaging l y)) (turn ∙ shown) put ∙ moves)
+-- found first by the step, where p and s tell whether the record is possible and the tapes are short
+module _ (c : Core) (l : Lent) (event : List ℕ) (r : Turn) (p s : Bool) (ok : p ≡ possible c) (fits : s ≡ short l) where
+  settles : (l′ : Lent) (e : Event) → (p && s) ≡ true → eventOf event ≡ e → stepped r l′ ≡ settledBy c true true l e → Steps c l event r l′
+  settles l′ e so is by =
+      let calm = both p s so in
+      steps-by c l event r l′ _ e true true refl is (sym (calm .0) ∙ ok) (sym (calm .1) ∙ fits) by
 
--- a byte taken within a block, as the step finds it
-pub taken-steps : (c : Core) (l : Lent) (event : List ℕ) (r : Turn) (n : ℕ) (sound near : Bool) (next : Next)
-    → n ≡ takenPlace (c .port .phase) event → n < lastPlace → sound ≡ possible c → near ≡ short l
-    → next ≡ nextOf (driveAt c (c .port .selected)) (tapeAt l (c .port .selected)) n → ((sound && near) && next .there) ≡ true
-    → r ≡ movedOn c (Giving (n + 1)) true (next .byte) true → Steps c l event r l
-unfolding pick handed
-taken-steps c l event r n sound near next is low ok fits byte so turn =
-    let d = driveAt c (c .port .selected) in
-    let t = tapeAt l (c .port .selected) in
-    let there = taken-there (c .port .phase) event n is low in
-    let free = both (sound && near) (next .there) so in
-    let calm = both sound near (free .0) in
-    let found = next-there d t n (ap (λ (x : Next). x .there) (sym byte) ∙ free .1) in
-    let phase = there .0 in
-    let here : next .byte ≡ getD t (d .head + 1 + n) 0 = ap (λ (x : Next). x .byte) byte ∙ found .1 .1 in
-    let shown = lines-known c (Giving (n + 1)) true (next .byte) true (reading-lines (d .mode) (d .exception) (found .0)) in
-    let moves = phase-moves c l Take (Giving (n + 1)) true (next .byte) (rw (phase) refl) (rw (phase, found .1 .0, lt-ltb n lastPlace low, here) refl) in
-    steps-by c l event r l _ (Own Take) true true refl (there .1) (sym (calm .0) ∙ ok) (sym (calm .1) ∙ fits) (ap (λ (x : Turn). stepped x l) (turn ∙ shown) ∙ moves)
+  -- a byte given within a block
+  pub given-steps : (g : List ℕ) (n : ℕ) (seen : Seen) → n ≡ givenPlace (c .port .phase) event → 0 < n
+      → seen ≡ lookOf (driveAt c (c .port .selected)) → ((p && s) && seen .writes) ≡ true
+      → r ≡ movedOn c (Taking (n + 1)) false 0 false → g ≡ staged (c .port .phase) (Give (bodyOf event)) (l .staging)
+      → Steps c l event r (putStaging l g)
+  unfolding pick
+  given-steps g n seen is some looked so turn put =
+      let d = driveAt c (c .port .selected) in
+      let there = given-there (c .port .phase) event n is some in
+      let free = both (p && s) (seen .writes) so in
+      let writing : writes d ≡ true = ap (λ (x : Seen). x .writes) (sym looked) ∙ free .1 in
+      let shown = lines-known c (Taking (n + 1)) false 0 false (writing-lines (d .mode) (d .exception) writing) in
+      let moves = phase-moves c l (Give (bodyOf event)) (Taking (n + 1)) false 0 (rw (there .0) writing) (rw (there .0, lt-ltb n lastPlace (there .1)) refl) in
+      settles (putStaging l g) (Own (Give (bodyOf event))) (free .0) (there .2)
+      (ap₂ (λ (x : Turn) (y : List ℕ). stepped x (putStaging l y)) (turn ∙ shown) put ∙ moves)
 
--- an octet of a report, as the step finds it
-pub octet-steps : (c : Core) (l : Lent) (event : List ℕ) (r : Turn) (k b : ℕ) (after : Core) (sound near : Bool)
-    → k ≡ octetsLeft (c .port .phase) event → 0 < k → sound ≡ possible c → near ≡ short l → (sound && near) ≡ true
-    → r ≡ takenTurn false true b after → b ≡ getD (c .port .octets) (octetPlace k) 0 → after ≡ movedTo c (afterOctet k) → Steps c l event r l
-unfolding pick octetTaken
-octet-steps c l event r k b after sound near is some ok fits so turn byte moved =
-    let there = octet-there (c .port .phase) event k is some in
-    let calm = both sound near so in
-    let phase = there .0 in
-    let moves = phase-moves c l Take (afterOctet k) true b (rw (phase) refl) (rw (phase, byte) refl) in
-    steps-by c l event r l _ (Own Take) true true refl (there .1) (sym (calm .0) ∙ ok) (sym (calm .1) ∙ fits)
-    (ap (λ (x : Turn). stepped x l) (turn ∙ ap (takenTurn false true b) moved) ∙ moves)
+  -- a byte taken within a block
+  pub taken-steps : (n : ℕ) (next : Next) → n ≡ takenPlace (c .port .phase) event → 0 < n
+      → next ≡ nextOf (driveAt c (c .port .selected)) (tapeAt l (c .port .selected)) n → ((p && s) && next .there) ≡ true
+      → r ≡ movedOn c (Giving (n + 1)) true (next .byte) true → Steps c l event r l
+  unfolding pick handed
+  taken-steps n next is some byte so turn =
+      let d = driveAt c (c .port .selected) in
+      let t = tapeAt l (c .port .selected) in
+      let there = taken-there (c .port .phase) event n is some in
+      let free = both (p && s) (next .there) so in
+      let found = next-there d t n (ap (λ (x : Next). x .there) (sym byte) ∙ free .1) in
+      let here : next .byte ≡ getD t (d .head + 1 + n) 0 = ap (λ (x : Next). x .byte) byte ∙ found .1 .1 in
+      let shown = lines-known c (Giving (n + 1)) true (next .byte) true (reading-lines (d .mode) (d .exception) (found .0)) in
+      let moves = phase-moves c l Take (Giving (n + 1)) true (next .byte) (rw (there .0) refl) (rw (there .0, found .1 .0, lt-ltb n lastPlace (there .1), here) refl) in
+      settles l (Own Take) (free .0) (there .2) (ap (λ (x : Turn). stepped x l) (turn ∙ shown) ∙ moves)
+
+  -- an octet of a report
+  pub octet-steps : (k b : ℕ) (after : Core) → k ≡ octetsLeft (c .port .phase) event → 0 < k → (p && s) ≡ true
+      → r ≡ takenTurn false true b after → b ≡ getD (c .port .octets) (octetPlace k) 0 → after ≡ movedTo c (afterOctet k) → Steps c l event r l
+  unfolding pick octetTaken
+  octet-steps k b after is some so turn byte moved =
+      let there = octet-there (c .port .phase) event k is some in
+      let moves = phase-moves c l Take (afterOctet k) true b (rw (there .0) refl) (rw (there .0, byte) refl) in
+      settles l (Own Take) so (there .1) (ap (λ (x : Turn). stepped x l) (turn ∙ ap (takenTurn false true b) moved) ∙ moves)

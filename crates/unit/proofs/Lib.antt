@@ -1,7 +1,5 @@
-pub mod Runs
 pub mod Demands
 pub mod Outcomes
 mod Bytes
 mod Settling
-mod Tested
 mod Inside

@@ -1,7 +1,8 @@
 -- Each public contract leaves one outcome.
-use mathlib.Core.Path.{_≡_, sym, ap, ap₂, _∙_}
+use mathlib.Core.Path.{ap, ap₂}
 use mathlib.Core.List.{List}
 use Prim.Native.Nat.{ℕ}
+use Rattle.basis.specs.Tests.{same}
 use Rattle.rules.specs.declared.answer.Outcome.{Outcome}
 use Rattle.rules.specs.declared.answer.Turn.{Turn}
 use Rattle.rules.specs.Unit.{Lent, putStaging}
@@ -10,9 +11,6 @@ use Rattle.rules.proofs.Outcomes.{steps-once}
 use Rattle.unit.specs.Turn.{turnOfOutcome}
 use Rattle.unit.specs.Outcomes.{OneOutcome}
 
-same : {A : Type 0} {x r r′ : A} → r ≡ x → r′ ≡ x → r ≡ r′
-same p q = p ∙ sym q
-
 -- an outcome is its turn and its staging block
 abbrev outcome : Turn → List ℕ → Outcome
 outcome t g = record { answer = t .answer; given = t .given; byte = t .byte; lines = t .lines; unit = record { core = t .core; staging = g } }
@@ -20,9 +18,6 @@ outcome t g = record { answer = t .answer; given = t .given; byte = t .byte; lin
 pub one-outcome : OneOutcome
 one-outcome =
     record {
-      number = λ a r r′ p q. same p q;
-      lines = λ c r r′ p q. same p q;
-      possible = λ c r r′ p q. same p q;
       step-core = steps-once;
       step =
           λ c l event r r′ l′ l″ p q.

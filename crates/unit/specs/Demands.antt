@@ -11,28 +11,28 @@ use Rattle.rules.specs.Answer.{rowOf}
 use Rattle.rules.specs.Refusal.{short}
 use Rattle.rules.specs.Step.{stepped, Steps}
 use Rattle.rules.specs.Run.{World, freshWorld}
-use Rattle.rules.specs.Reach.{Reading, realChange, anyLevel, Gave, reachesBy, gaveBy, keptIf}
+use Rattle.rules.specs.Reach.{Change, realChange, anyLevel, Gave, reachesBy, gaveBy, onlyIf}
 use Rattle.rules.specs.Promises.Table.{answerTo}
 use Rattle.rules.specs.Promises.Refused.{AsFound}
 use Rattle.rules.specs.Promises.Demand3.{Alike}
-use Rattle.unit.specs.Runs.{Ran, RunsAreTheBooks}
+use Rattle.rules.specs.Ran.{Ran, RunsAreTheBooks}
 
 -- What reached drive d in a run that began with core c, and what it gave, read off what the step handed back.
-abbrev pub reachedIn : Reading → ℕ → Core → List (List ℕ) → List Turn → List (List ℕ)
+abbrev pub reachedIn : Change → ℕ → Core → List (List ℕ) → List Turn → List (List ℕ)
 reachedIn k d c [] rs = []
 reachedIn k d c (e ∷ es) [] = []
 reachedIn k d c (e ∷ es) (r ∷ rs) =
-    keptIf (reachesBy k d (c .port .selected) (c .port .online) (r .answer) (eventOf e)) e (reachedIn k d (r .core) es rs)
+    onlyIf (reachesBy k d (c .port .selected) (c .port .online) (r .answer) (eventOf e)) e (reachedIn k d (r .core) es rs)
 
-abbrev pub gaveIn : Reading → ℕ → Core → List (List ℕ) → List Turn → List Gave
+abbrev pub gaveIn : Change → ℕ → Core → List (List ℕ) → List Turn → List Gave
 gaveIn k d c [] rs = []
 gaveIn k d c (e ∷ es) [] = []
 gaveIn k d c (e ∷ es) (r ∷ rs) =
-    keptIf (reachesBy k d (c .port .selected) (c .port .online) (r .answer) (eventOf e)) (gaveBy d (c .port .selected) (eventOf e) r) (gaveIn k d (r .core) es rs)
+    onlyIf (reachesBy k d (c .port .selected) (c .port .online) (r .answer) (eventOf e)) (gaveBy d (c .port .selected) (eventOf e) r) (gaveIn k d (r .core) es rs)
 
 -- Two runs of the step from a fresh unit, any tapes of allowed length that agree on drive d's, any events: where the same events reach the drive in the same order,
 -- it ends the same and gave the same.
-abbrev pub OneDrive : Reading → Type 0
+abbrev pub OneDrive : Change → Type 0
 OneDrive k =
     (d : ℕ) → d ≤ 3 → (a b c e a′ b′ c′ e′ : List ℕ)
     → short (freshWorld a b c e .lent) ≡ true → short (freshWorld a′ b′ c′ e′ .lent) ≡ true

@@ -1,7 +1,6 @@
-pub mod Meant
+pub mod Own
 pub mod Within
 pub mod Turn
-pub mod Runs
 pub mod Feed
 pub mod Demands
 pub mod Outcomes

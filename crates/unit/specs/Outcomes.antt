@@ -1,16 +1,10 @@
 -- Each public contract leaves one outcome: any two that it allows are equal.
 use Prim.Native.Nat.{ℕ}
 use mathlib.Core.Path.{_≡_}
-use mathlib.Core.Bool.{Bool}
 use mathlib.Core.List.{List}
 use Rattle.rules.specs.declared.unit.Core.{Core}
-use Rattle.rules.specs.declared.answer.Answer.{Answer}
-use Rattle.rules.specs.declared.answer.Lines.{Lines}
 use Rattle.rules.specs.declared.answer.Outcome.{Outcome}
 use Rattle.rules.specs.Unit.{Lent, putStaging}
-use Rattle.rules.specs.Answer.{rowOf}
-use Rattle.rules.specs.Refusal.{possible}
-use Rattle.rules.specs.Lines.{linesOf}
 use Rattle.rules.specs.Step.{Steps}
 use Rattle.rules.specs.Run.{World, world, run}
 use Rattle.rules.specs.Promises.Outcomes.{StepsOnce}
@@ -22,9 +16,6 @@ abbrev pub SameTapes : Lent → Lent → Type 0
 SameTapes l l′ = (l .tape0 ≡ l′ .tape0) × (l .tape1 ≡ l′ .tape1) × (l .tape2 ≡ l′ .tape2) × (l .tape3 ≡ l′ .tape3)
 
 pub record OneOutcome : Type 0 where
-  pub number : (a : Answer) (r r′ : ℕ) → r ≡ rowOf a .number → r′ ≡ rowOf a .number → r ≡ r′
-  pub lines : (c : Core) (r r′ : Lines) → r ≡ linesOf c → r′ ≡ linesOf c → r ≡ r′
-  pub possible : (c : Core) (r r′ : Bool) → r ≡ possible c → r′ ≡ possible c → r ≡ r′
   pub step-core : StepsOnce
   pub step : (c : Core) (l : Lent) (event : List ℕ) (r r′ : Outcome) (l′ l″ : Lent)
       → Steps c l event (turnOfOutcome r) (putStaging l′ (r .unit .staging)) → Steps c l event (turnOfOutcome r′) (putStaging l″ (r′ .unit .staging))

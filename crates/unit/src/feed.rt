@@ -3,8 +3,8 @@ ghost use mathlib.Core.Path.{_≡_};
 ghost use Rattle.rules.specs.Unit.{lent};
 ghost use Rattle.rules.specs.Run.{world, run};
 ghost use Rattle.unit.specs.Feed.{givenEach};
-use crate::event::GIVEN;
 use crate::steps::step_core;
+use answers::GIVEN;
 use rules::Core;
 use tape::BODY;
 

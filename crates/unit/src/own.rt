@@ -1,12 +1,11 @@
 // An act of the host, with the record of the selected drive and its own tape of the four.
 ghost use mathlib.Core.Path.{_≡_};
-ghost use Rattle.unit.specs.Meant.{kept, ownBy};
-use crate::answer::refuses;
-use crate::refuse::in_step;
-use crate::refuse::refusal_by;
-use crate::refuse::unless;
-use crate::turn::done;
-use crate::turn::refuse;
+ghost use Rattle.unit.specs.Own.{ownTurn, ownBy};
+use answers::done;
+use answers::in_step;
+use answers::refusal_by;
+use answers::refuse;
+use answers::unless;
 use port::act;
 use port::stage;
 use rules::Act;
@@ -19,20 +18,20 @@ use tape::BODY;
 // Refused, or a byte given staged first and then the act: nothing is in reach but this drive's tape.
 pub(crate) fn act_on(
     core: Core,
-    sound: bool,
-    near: bool,
+    possible: bool,
+    short: bool,
     drive: Drive,
     staging: &mut [u8; BODY],
     tape: &mut [u8],
     a: Act,
 ) -> Turn
-    ensures { λ r. ⌜ kept r (now (staging .exit)) (now (tape .exit)) ≡ ownBy core sound near drive (now (staging .entry)) (now (tape .entry)) a ⌝ }
+    ensures { λ r. ⌜ ownTurn r (now (staging .exit)) (now (tape .exit)) ≡ ownBy core possible short drive (now (staging .entry)) (now (tape .entry)) a ⌝ }
 {
     let port = core.port;
     let phase = port.phase;
     let fits = in_step(phase, drive.writes(), drive.reads(), a);
-    let answer = refusal_by(sound, near, unless(fits, Answer::OutOfStep));
-    if refuses(answer) {
+    let answer = refusal_by(possible, short, unless(fits, Answer::OutOfStep));
+    if answer.refuses() {
         return refuse(answer, core);
     }
     stage(staging, phase, a);

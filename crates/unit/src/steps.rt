@@ -1,30 +1,27 @@
 // One event: the drive that it means, then refusal first and effect second.
-ghost use Rattle.rules.specs.declared.event.Event.the-variants.{Reset};
 ghost use Rattle.rules.specs.Unit.{lent};
 ghost use Rattle.rules.specs.Step.{Steps};
-ghost use Rattle.unit.specs.Meant.{Settles};
 ghost use Rattle.unit.specs.Turn.{turnOfOutcome};
-use crate::LAST_PLACE;
-use crate::answer::refuses;
-use crate::event::event_of;
 use crate::own::act_on;
-use crate::place::body;
-use crate::place::given_place;
-use crate::place::octets_left;
-use crate::place::taken_place;
-use crate::record::possible;
-use crate::refuse::refusal_by;
-use crate::refuse::short;
-use crate::slot::slot;
-use crate::turn::done;
-use crate::turn::refuse;
-use crate::within::moved_on;
-use crate::within::moved_to;
 use crate::within::next_byte;
-use crate::within::writes_at;
-use port::after_octet;
-use port::next_octet;
+use answers::body;
+use answers::done;
+use answers::event_of;
+use answers::given_place;
+use answers::look;
+use answers::moved_on;
+use answers::moved_to;
+use answers::octets_left;
+use answers::possible;
+use answers::refusal_by;
+use answers::refuse;
+use answers::reset;
+use answers::short;
+use answers::slot;
+use answers::taken_place;
 use port::stage;
+use report::after_octet;
+use report::next_octet;
 use rules::Act;
 use rules::Answer;
 use rules::Core;
@@ -34,17 +31,6 @@ use rules::Phase;
 use rules::Turn;
 use rules::Unit;
 use tape::BODY;
-
-// RESET, which nothing refuses but 5 and 6.
-fn reset(core: Core, sound: bool, near: bool) -> Turn
-    ensures { λ r. ⌜ Settles core sound near Reset r ⌝ }
-{
-    let answer = refusal_by(sound, near, Answer::Taken);
-    if refuses(answer) {
-        return refuse(answer, core);
-    }
-    done(true, false, 0, core.reset())
-}
 
 // One event on a core, with the staging block lent beside the four tapes.
 pub fn step_core(
@@ -58,47 +44,47 @@ pub fn step_core(
 ) -> Turn
     ensures { λ r. ⌜ Steps core (lent (now (staging .entry)) (now (tape0 .entry)) (now (tape1 .entry)) (now (tape2 .entry)) (now (tape3 .entry))) (now (event .entry)) r (lent (now (staging .exit)) (now (tape0 .exit)) (now (tape1 .exit)) (now (tape2 .exit)) (now (tape3 .exit))) ⌝ }
 {
-    let near = short(tape0.len(), tape1.len(), tape2.len(), tape3.len());
-    let sound = possible(core);
+    let short = short(tape0.len(), tape1.len(), tape2.len(), tape3.len());
+    let possible = possible(core);
     let port = core.port;
     let phase = port.phase;
     let n = given_place(phase, event);
-    if n < LAST_PLACE {
-        if (sound & near) & writes_at(core, port.selected) {
+    if 0 < n {
+        if (possible & short) & look(core, port.selected).writes {
             stage(staging, phase, Act::Give(body(event)));
             return moved_on(core, Phase::Taking(n + 1), false, 0, false);
         }
     }
     let n = taken_place(phase, event);
-    if n < LAST_PLACE {
+    if 0 < n {
         let next = next_byte(core, tape0, tape1, tape2, tape3, n);
-        if (sound & near) & next.there {
+        if (possible & short) & next.there {
             return moved_on(core, Phase::Giving(n + 1), true, next.byte, true);
         }
     }
     let k = octets_left(phase, event);
     if 0 < k {
-        if sound & near {
+        if possible & short {
             let after = moved_to(core, after_octet(k));
             return done(false, true, next_octet(port, k), after);
         }
     }
     let e = event_of(event);
     match e {
-        Event::NoEvent => refuse(refusal_by(sound, near, Answer::Malformed), core),
-        Event::Reset => reset(core, sound, near),
-        Event::Named(i, what) => slot(core, sound, near, i, what),
+        Event::NoEvent => refuse(refusal_by(possible, short, Answer::Malformed), core),
+        Event::Reset => reset(core, possible, short),
+        Event::Named(i, what) => slot(core, possible, short, i, what),
         Event::Own(a) => {
             if port.selected == 0 {
-                return act_on(core, sound, near, core.drive0, staging, tape0, a);
+                return act_on(core, possible, short, core.drive0, staging, tape0, a);
             }
             if port.selected == 1 {
-                return act_on(core, sound, near, core.drive1, staging, tape1, a);
+                return act_on(core, possible, short, core.drive1, staging, tape1, a);
             }
             if port.selected == 2 {
-                return act_on(core, sound, near, core.drive2, staging, tape2, a);
+                return act_on(core, possible, short, core.drive2, staging, tape2, a);
             }
-            act_on(core, sound, near, core.drive3, staging, tape3, a)
+            act_on(core, possible, short, core.drive3, staging, tape3, a)
         }
     }
 }

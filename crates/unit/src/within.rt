@@ -1,36 +1,20 @@
-// A byte within a block: it moves the phase on, and changes nothing else of the record.
+// A byte within a block, off the tape of the selected drive.
 ghost use mathlib.Core.Path.{_≡_};
 ghost use Prim.Native.Nat.{_+_, _≤_, _<_};
 ghost use lib.ListN.{length, getD};
 ghost use Rattle.tape.specs.Record.{blockSize};
-ghost use Rattle.rules.specs.Drive.{writes};
-ghost use Rattle.rules.specs.Unit.{oneOf, driveAt, lastPlace};
-ghost use Rattle.unit.specs.Within.{nextOf, movedTo, movedOn};
+ghost use Rattle.rules.specs.Phase.{lastPlace};
+ghost use Rattle.rules.specs.Unit.{oneOf, driveAt};
+ghost use Rattle.unit.specs.Within.{nextOf};
 use port::is_block;
-use rules::Answer;
 use rules::Core;
 use rules::Drive;
-use rules::Lines;
-use rules::Phase;
-use rules::Turn;
 use tape::found_at;
 
 // A byte of the tape, where there is one.
 pub(crate) struct Next {
     pub there: bool,
     pub byte: u8,
-}
-
-// Whether the drive of a number takes data.
-pub(crate) fn writes_at(core: Core, i: u8) -> bool
-    ensures { λ r. ⌜ r ≡ writes (driveAt core i) ⌝ }
-{
-    match i {
-        0 => core.drive0.writes(),
-        1 => core.drive1.writes(),
-        2 => core.drive2.writes(),
-        _ => core.drive3.writes(),
-    }
 }
 
 // Byte n of a block that ends inside the tape.
@@ -79,34 +63,5 @@ pub(crate) fn next_byte(
         1 => next_of(core.drive1, tape1, n),
         2 => next_of(core.drive2, tape2, n),
         _ => next_of(core.drive3, tape3, n),
-    }
-}
-
-// Another phase, and nothing else.
-pub(crate) fn moved_to(core: Core, phase: Phase) -> Core
-    ensures { λ r. ⌜ r ≡ movedTo core phase ⌝ }
-{
-    let p = core.port;
-    let port = p.at_phase(phase);
-    let mut after = core;
-    after.port = port;
-    after
-}
-
-// The phase moved on, no EXCEPTION, and DIRECTION up where the host takes bytes.
-pub(crate) fn moved_on(core: Core, phase: Phase, given: bool, byte: u8, direction: bool) -> Turn
-    ensures { λ r. ⌜ r ≡ movedOn core phase given byte direction ⌝ }
-{
-    let after = moved_to(core, phase);
-    Turn {
-        answer: Answer::Taken,
-        given,
-        byte,
-        lines: Lines {
-            ready: false,
-            exception: false,
-            direction,
-        },
-        core: after,
     }
 }

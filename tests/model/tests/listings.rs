@@ -4,6 +4,8 @@ use model::compare::random::Random;
 use model::compare::steer;
 use model::listing::{to_raw, to_text};
 use std::io::Write;
+use std::os::fd::OwnedFd;
+use std::os::unix::net::UnixStream;
 use std::process::{Command, Output, Stdio};
 
 #[test]
@@ -129,11 +131,16 @@ fn what_is_wrong_is_told_with_its_line() {
 
 /// The program with these words and this input.
 fn listing(words: &[&str], input: &[u8]) -> Output {
+    listing_to(words, input, [Stdio::piped(), Stdio::piped()])
+}
+
+/// The same, with its output and what it says going here.
+fn listing_to(words: &[&str], input: &[u8], [out, err]: [Stdio; 2]) -> Output {
     let mut child = Command::new(env!("CARGO_BIN_EXE_listing"))
         .args(words)
         .stdin(Stdio::piped())
-        .stdout(Stdio::piped())
-        .stderr(Stdio::piped())
+        .stdout(out)
+        .stderr(err)
         .spawn()
         .expect("it starts");
     // It may have ended already when its words were wrong.
@@ -156,5 +163,30 @@ fn the_program_turns_both_ways() {
         let usage = listing(words, b"");
         assert_eq!(usage.status.code(), Some(2));
         assert!(usage.stderr.starts_with(b"usage: listing raw"));
+    }
+}
+
+/// A pipe whose reader has gone.
+fn closed() -> Stdio {
+    let (_reader, writer) = UnixStream::pair().expect("there are sockets");
+    OwnedFd::from(writer).into()
+}
+
+#[test]
+fn a_reader_that_has_gone_ends_the_program_quietly() {
+    let long = "give 55 x1000000\n".repeat(2);
+    for (words, input) in [
+        (&["--help"][..], &[][..]),
+        (&["-h"], &[]),
+        (&["raw"], b"take"),
+        (&["raw"], long.as_bytes()),
+        (&["text"], &[0x03]),
+    ] {
+        let ended = listing_to(words, input, [closed(), Stdio::piped()]);
+        assert_eq!((ended.status.code(), ended.stderr), (Some(0), vec![]), "{words:?}");
+    }
+    for (words, code) in [(&["raw"][..], 1), (&["both"], 2)] {
+        let ended = listing_to(words, b"toke", [Stdio::piped(), closed()]);
+        assert_eq!((ended.status.code(), ended.stdout), (Some(code), vec![]), "{words:?}");
     }
 }

@@ -1,4 +1,4 @@
-use mathlib.Core.Path.{refl, _≡_, ap, _∙_}
+use mathlib.Core.Path.{_≡_, refl, _∙_}
 -- What is left to run from pair i comes to the whole run.
 use Prim.Native.Nat.{_≤_, _-_, _+_}
 use native.Mathlib.Omega.{arith}
@@ -26,11 +26,11 @@ loop-holds c = (refl, (omega arith, (refl, (refl, (refl, refl)))))
 add-loop : tie.Need-add-loop Inv-loop μ-loop
 add-loop c = search needs
 
-shared-slice-read-size-of : tie.Need-shared-slice-read-size-of Inv-loop μ-loop
-shared-slice-read-size-of c = search needs
+shared-slice-read-kind-size : tie.Need-shared-slice-read-kind-size Inv-loop μ-loop
+shared-slice-read-kind-size c = search needs
 
-size-of-requires : tie.Need-size-of-requires Inv-loop μ-loop
-size-of-requires c κs = search needs
+kind-size-requires : tie.Need-kind-size-requires Inv-loop μ-loop
+kind-size-requires c κs = search needs
 
 add-end : tie.Need-add-end Inv-loop μ-loop
 add-end c = search needs
@@ -54,7 +54,7 @@ loop-less : tie.Need-loop-less Inv-loop μ-loop
 loop-less c = search needs
 
 loop-again : tie.Need-loop-again Inv-loop μ-loop
-loop-again c = let at = c .before .before .before .before .before .before .before .before .before .before .before .before .before .before .before .before .before .before .before .loop in (one-pair (at .after) _ (c .before .before .before .before .before .before .before .before .before .before .before .before .before .before .before .before .before .before .before .before .before .before .before .before .before .args .pairs .now) (at .i) _ _ _ (c .before .before .before .before .before .before .before .before .before .before .before .before .before .before .before .before .before .before .loop-test .taken) (ap (λ n. at .i + n) (c .before .before .before .before .before .before .before .before .before .before .before .before .before .before .before .before .size-of .ensures .0)) (c .before .before .before .before .before .before .before .before .before .step-core .ensures) ∙ at .inv .0, (omega (arith, c .before .before .before .before .before .before .before .before .before .before .before .before .before .before .before .before .before .before .loop-test .taken), search needs))
+loop-again c = let at = c .before .before .before .before .before .before .before .before .before .before .before .before .before .before .before .before .before .before .before .loop in (one-pair (at .after) _ (c .before .before .before .before .before .before .before .before .before .before .before .before .before .before .before .before .before .before .before .before .before .before .before .before .before .args .pairs .now) (at .i) _ _ _ _ (c .before .before .before .before .before .before .before .before .before .before .before .before .before .before .before .before .before .before .loop-test .taken) (c .before .before .before .before .before .before .before .before .before .before .before .before .before .before .before .before .kind-size .ensures .0) (c .before .before .before .before .before .before .before .before .before .before .before .before .before .before .before .before .kind-size .ensures .1) refl (c .before .before .before .before .before .before .before .before .before .step-core .ensures) ∙ at .inv .0, (omega (arith, c .before .before .before .before .before .before .before .before .before .before .before .before .before .before .before .before .before .before .loop-test .taken), search needs))
 
 same-length : tie.Need-same-length Inv-loop μ-loop
 same-length c = search needs
@@ -79,8 +79,8 @@ run-core-spec =
     μ-loop
     loop-holds
     add-loop
-    shared-slice-read-size-of
-    size-of-requires
+    shared-slice-read-kind-size
+    kind-size-requires
     add-end
     sub-step-core
     part-step-core-start

@@ -6,15 +6,15 @@ use mathlib.Core.List.{List, [], _++_}
 use mathlib.Core.Option.{Option, none, some}
 use lib.Dec.{eqb}
 use lib.ListN.{replicate, take}
-use Rattle.tape.specs.Choice.{pick}
+use Rattle.basis.specs.Choice.{pick}
 use Rattle.rules.specs.declared.drive.Drive.{Drive}
-use Rattle.rules.specs.declared.unit.Phase.{Phase}
-use Rattle.rules.specs.declared.unit.Phase.the-variants.{Rest, Taking, Giving, Status}
+use Rattle.rules.specs.declared.phase.Phase.{Phase}
+use Rattle.rules.specs.declared.phase.Phase.the-variants.{Rest, Taking, Giving, Status}
 use Rattle.rules.specs.Unit.{Lent, lent, driveAt, tapeAt}
 use Rattle.rules.specs.Refusal.{short}
-use Rattle.rules.specs.Bytes.{givenBefore}
+use Rattle.rules.specs.Phase.{givenBefore}
 use Rattle.rules.specs.Run.{World, run, freshWorld}
-use Rattle.rules.specs.Reach.{Reading, realChange, anyLevel, reached, given}
+use Rattle.rules.specs.Reach.{Change, realChange, anyLevel, reached, given}
 
 -- What a selected drive still has to give or take: the phase, the part block given, and the octets while they go out.
 pub record Pending : Type 0 where
@@ -42,11 +42,11 @@ pub record Alike (d : ℕ) (w w′ : World) : Type 0 where
 
 -- One drive, two runs from a fresh unit with any tapes of allowed length that agree on that drive's, any events: where the same events reach the drive in the same order,
 -- it ends the same and gave the same.
-pub record SameFate (r : Reading) (d : ℕ) (w w′ : World) (es es′ : List (List ℕ)) : Type 0 where
+pub record SameFate (r : Change) (d : ℕ) (w w′ : World) (es es′ : List (List ℕ)) : Type 0 where
   pub ends : Alike d (run w es) (run w′ es′)
   pub gives : given r d w es ≡ given r d w′ es′
 
-abbrev pub Demand3For : Reading → Type 0
+abbrev pub Demand3For : Change → Type 0
 Demand3For r =
     (d : ℕ) → d ≤ 3 → (a b c e a′ b′ c′ e′ : List ℕ)
     → short (freshWorld a b c e .lent) ≡ true → short (freshWorld a′ b′ c′ e′ .lent) ≡ true

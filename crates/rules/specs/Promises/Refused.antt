@@ -4,7 +4,7 @@ use mathlib.Core.Path.{_≡_}
 use mathlib.Core.Bool.{true, false}
 use mathlib.Core.List.{List}
 use Rattle.rules.specs.declared.unit.Core.{Core}
-use Rattle.rules.specs.declared.unit.Phase.the-variants.{Giving}
+use Rattle.rules.specs.declared.phase.Phase.the-variants.{Giving}
 use Rattle.rules.specs.declared.event.Act.the-variants.{Take}
 use Rattle.rules.specs.declared.event.Event.the-variants.{Own}
 use Rattle.rules.specs.declared.answer.Answer.the-variants.{Raised, Impossible}

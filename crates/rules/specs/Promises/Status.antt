@@ -11,7 +11,7 @@ use Rattle.rules.specs.declared.event.Event.the-variants.{Reset, Own}
 use Rattle.rules.specs.declared.answer.Answer.the-variants.{Taken, Raised}
 use Rattle.rules.specs.Unit.{Lent, Whole, driveAt}
 use Rattle.rules.specs.Event.{eventOf}
-use Rattle.rules.specs.Refusal.{atRest}
+use Rattle.rules.specs.Phase.{atRest}
 use Rattle.rules.specs.Step.{stepOf}
 use Rattle.rules.specs.Promises.Table.{answerTo}
 

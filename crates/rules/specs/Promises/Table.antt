@@ -6,13 +6,15 @@ use mathlib.Core.Bool.{Bool, true, false, not}
 use mathlib.Core.List.{List}
 use Rattle.rules.specs.declared.unit.Core.{Core}
 use Rattle.rules.specs.declared.event.Event.{Event}
+use Rattle.rules.specs.declared.event.What.{What}
+use Rattle.rules.specs.declared.event.What.the-variants.{In, Out, Error, Underrun}
 use Rattle.rules.specs.declared.event.Event.the-variants.{NoEvent, Reset, Named, Own}
 use Rattle.rules.specs.declared.answer.Answer.{Answer}
 use Rattle.rules.specs.declared.answer.Answer.the-variants.{Taken, Raised, OutOfStep, WrongSlot, Malformed, Impossible, TooLong}
 use Rattle.rules.specs.Unit.{Lent, driveAt}
 use Rattle.rules.specs.Event.{eventOf}
 use Rattle.rules.specs.Answer.{rowOf}
-use Rattle.rules.specs.Refusal.{possible, short, inStepAt, slotFits}
+use Rattle.rules.specs.Refusal.{possible, short, inStepAt}
 use Rattle.rules.specs.Effect.{Acted}
 use Rattle.rules.specs.Slot.{isOut}
 use Rattle.rules.specs.Step.{act, seatOf, stagedIn, stepOf}
@@ -38,7 +40,13 @@ outOfStep c Reset = false
 outOfStep c (Named i w) = false
 outOfStep c (Own a) = not (inStepAt (c .port .phase) (driveAt c (c .port .selected)) a)
 
--- 3: the slot is not as the event wants it.
+-- 3: the slot is not as the event wants it: empty for a cartridge that comes in, full for all else.
+abbrev pub slotFits : Bool → What → Bool
+slotFits loaded (In p) = not loaded
+slotFits loaded Out = loaded
+slotFits loaded Error = loaded
+slotFits loaded Underrun = loaded
+
 abbrev pub wrongSlot : Core → Event → Bool
 wrongSlot c NoEvent = false
 wrongSlot c Reset = false

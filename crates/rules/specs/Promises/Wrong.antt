@@ -5,7 +5,7 @@ use mathlib.Core.List.{List, [], _∷_}
 use lib.ListN.{set}
 use Rattle.tape.specs.Record.{markRecord}
 use Rattle.tape.specs.Recording.{recorded}
-use Rattle.rules.specs.declared.unit.Phase.the-variants.{Rest, Taking}
+use Rattle.rules.specs.declared.phase.Phase.the-variants.{Rest, Taking}
 use Rattle.rules.specs.declared.event.Act.the-variants.{Command, Give, Offline}
 use Rattle.rules.specs.declared.event.What.the-variants.{Out, Underrun}
 use Rattle.rules.specs.declared.event.Event.the-variants.{Reset, Named, Own}

@@ -22,22 +22,19 @@ A listing has one event a line; # begins a comment; xN repeats the line's event:
 fn main() -> ExitCode {
     let words: Vec<String> = std::env::args().skip(1).collect();
     let words: Vec<&str> = words.iter().map(String::as_str).collect();
-    let (way, file) = match words.as_slice() {
-        ["--help" | "-h"] => {
-            println!("{USAGE}");
-            return ExitCode::SUCCESS;
-        }
-        [way @ ("raw" | "text")] => (*way, "-"),
-        [way @ ("raw" | "text"), file] => (*way, *file),
+    let done = match words.as_slice() {
+        ["--help" | "-h"] => write(format!("{USAGE}\n").as_bytes()),
+        [way @ ("raw" | "text")] => convert(way, "-"),
+        [way @ ("raw" | "text"), file] => convert(way, file),
         _ => {
-            eprintln!("{USAGE}");
+            say(USAGE);
             return ExitCode::from(2);
         }
     };
-    match convert(way, file) {
+    match done {
         Ok(()) => ExitCode::SUCCESS,
         Err(wrong) => {
-            eprintln!("listing: {wrong}");
+            say(&format!("listing: {wrong}"));
             ExitCode::FAILURE
         }
     }
@@ -53,11 +50,22 @@ fn convert(way: &str, file: &str) -> Result<(), String> {
         let text = String::from_utf8(input).map_err(|_| format!("{name}: not a text"))?;
         listing::to_raw(&text).map_err(|wrong| format!("{name}: {wrong}"))?
     };
-    match io::stdout().lock().write_all(&output) {
+    write(&output)
+}
+
+/// Writes to standard output.
+fn write(output: &[u8]) -> Result<(), String> {
+    let mut out = io::stdout().lock();
+    match out.write_all(output).and_then(|()| out.flush()) {
         // The reader may have seen enough: replay stops at bytes that are no event.
         Err(error) if error.kind() == io::ErrorKind::BrokenPipe => Ok(()),
         result => result.map_err(|error| format!("standard output: {error}")),
     }
+}
+
+/// Says what is wrong, if anybody listens.
+fn say(text: &str) {
+    let _ = writeln!(io::stderr(), "{text}");
 }
 
 fn read(file: &str) -> io::Result<Vec<u8>> {

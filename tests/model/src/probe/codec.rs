@@ -1,35 +1,40 @@
 //! A record as the bytes that a board keeps, and back.
 
 use crate::state::{Drive, Latched, Mode, Phase, Unit};
+use std::ops::Range;
 
 /// Bytes of a record.
-pub const SIZE: usize = 629;
+pub const SIZE: usize = 658;
 /// The one form of record that there is.
-pub const VERSION: u8 = 1;
+pub const VERSION: u8 = 2;
+/// Where the selected drive, ONLINE, the phase and its number stand.
+pub const SELECTED: usize = 1;
+pub const ONLINE: usize = 2;
+pub const PHASE: usize = 3;
+pub const NUMBER: Range<usize> = 4..12;
 /// Where drive 0 begins, and the bytes of a drive.
-pub const DRIVES: usize = 25;
-pub const DRIVE: usize = 23;
+pub const DRIVES: usize = 18;
+pub const DRIVE: usize = 32;
 /// Where the staging block begins.
-pub const STAGING: usize = 117;
+pub const STAGING: usize = 146;
 
 /// Why bytes are no record.
 #[derive(Clone, Copy, PartialEq, Eq, PartialOrd, Ord, Debug)]
 pub enum Flaw {
     Length,
     Version,
-    Selected,
     Bool,
     Phase,
     NumberAtRest,
     Mode,
+    Unused,
 }
 
 /// The bytes of a record, possible or not.
 pub fn encode(unit: &Unit) -> Vec<u8> {
     let mut bytes = Vec::with_capacity(SIZE);
-    bytes.push(VERSION);
-    bytes.extend(unit.selected.to_le_bytes());
-    bytes.push(unit.online as u8);
+    let selected = u8::try_from(unit.selected).expect("the number of a drive has one byte");
+    bytes.extend([VERSION, selected, unit.online as u8]);
     let (tag, number) = match unit.phase {
         Phase::Rest => (0, 0),
         Phase::Taking(n) => (1, n),
@@ -45,17 +50,21 @@ pub fn encode(unit: &Unit) -> Vec<u8> {
 }
 
 fn encode_drive(drive: &Drive, bytes: &mut Vec<u8>) {
-    bytes.extend([drive.loaded as u8, drive.protected as u8]);
     bytes.extend(drive.head.to_le_bytes());
-    bytes.push(match drive.mode {
+    bytes.extend([0; 4]);
+    bytes.extend(drive.errors.to_le_bytes());
+    bytes.extend(drive.underruns.to_le_bytes());
+    let mode = match drive.mode {
         Mode::Idle => 0,
         Mode::Writing => 1,
         Mode::Reading => 2,
-    });
+    };
+    let [loaded, protected, exception] =
+        [drive.loaded, drive.protected, drive.exception].map(|bit| bit as u8);
+    bytes.extend([loaded, protected, 0, mode, 0, exception]);
     let Latched { cni, eom, ude, fil, ill, ndt, por } = drive.latched;
-    bytes.extend([drive.exception, cni, eom, ude, fil, ill, ndt, por].map(|bit| bit as u8));
-    bytes.extend(drive.errors.to_le_bytes());
-    bytes.extend(drive.underruns.to_le_bytes());
+    bytes.extend([cni, eom, ude, false, fil, ill, ndt, por].map(|bit| bit as u8));
+    bytes.extend([0; 2]);
 }
 
 /// The record that the bytes are, if they are one.
@@ -67,7 +76,8 @@ pub fn decode(bytes: &[u8]) -> Result<Unit, Flaw> {
     if from.take() != [VERSION] {
         return Err(Flaw::Version);
     }
-    let selected = from.selected()?;
+    let [selected] = from.take();
+    let selected = selected.into();
     let online = from.bool()?;
     let phase = from.phase()?;
     let octets = from.take();
@@ -92,11 +102,16 @@ impl Cursor<'_> {
         u64::from_le_bytes(self.take())
     }
 
-    /// One byte in the room of eight.
-    fn selected(&mut self) -> Result<u64, Flaw> {
-        match self.take() {
-            [low, 0, 0, 0, 0, 0, 0, 0] => Ok(low.into()),
-            _ => Err(Flaw::Selected),
+    fn counter(&mut self) -> u16 {
+        u16::from_le_bytes(self.take())
+    }
+
+    /// Room that no field has: its bytes are 0.
+    fn unused<const N: usize>(&mut self) -> Result<(), Flaw> {
+        if self.take() == [0; N] {
+            Ok(())
+        } else {
+            Err(Flaw::Unused)
         }
     }
 
@@ -130,26 +145,26 @@ impl Cursor<'_> {
         }
     }
 
-    /// The fields stand in the order in which they are named here.
+    fn latched(&mut self) -> Result<Latched, Flaw> {
+        let (cni, eom, ude) = (self.bool()?, self.bool()?, self.bool()?);
+        self.unused::<1>()?;
+        let (fil, ill) = (self.bool()?, self.bool()?);
+        let (ndt, por) = (self.bool()?, self.bool()?);
+        Ok(Latched { cni, eom, ude, fil, ill, ndt, por })
+    }
+
     fn drive(&mut self) -> Result<Drive, Flaw> {
-        Ok(Drive {
-            loaded: self.bool()?,
-            protected: self.bool()?,
-            head: self.number(),
-            mode: self.mode()?,
-            exception: self.bool()?,
-            latched: Latched {
-                cni: self.bool()?,
-                eom: self.bool()?,
-                ude: self.bool()?,
-                fil: self.bool()?,
-                ill: self.bool()?,
-                ndt: self.bool()?,
-                por: self.bool()?,
-            },
-            errors: u16::from_le_bytes(self.take()),
-            underruns: u16::from_le_bytes(self.take()),
-        })
+        let head = self.number();
+        self.unused::<4>()?;
+        let (errors, underruns) = (self.counter(), self.counter());
+        let (loaded, protected) = (self.bool()?, self.bool()?);
+        self.unused::<1>()?;
+        let mode = self.mode()?;
+        self.unused::<1>()?;
+        let exception = self.bool()?;
+        let latched = self.latched()?;
+        self.unused::<2>()?;
+        Ok(Drive { loaded, protected, head, mode, exception, latched, errors, underruns })
     }
 }
 
@@ -167,34 +182,46 @@ pub fn field(offset: usize) -> String {
     }
     match offset {
         0 => "version".into(),
-        1..=8 => format!("selected byte {}", offset - 1),
-        9 => "ONLINE".into(),
-        10 => "phase".into(),
-        11..=18 => format!("number of the phase, byte {}", offset - 11),
-        _ => format!("octet {}", offset - 19),
+        SELECTED => "selected".into(),
+        ONLINE => "ONLINE".into(),
+        PHASE => "phase".into(),
+        4..=11 => format!("number of the phase, byte {}", offset - NUMBER.start),
+        _ => format!("octet {}", offset - NUMBER.end),
     }
 }
 
 fn drive_field(at: usize) -> String {
-    let bits = ["mode", "EXCEPTION", "CNI", "EOM", "UDE", "FIL", "ILL", "NDT", "POR"];
+    let bits = ["CNI", "EOM", "UDE", "unused", "FIL", "ILL", "NDT", "POR"];
     match at {
-        0 => "loaded".into(),
-        1 => "protected".into(),
-        2..=9 => format!("head byte {}", at - 2),
-        10..=18 => bits[at - 10].into(),
-        19 | 20 => format!("errors byte {}", at - 19),
-        _ => format!("underruns byte {}", at - 21),
+        0..=7 => format!("head byte {at}"),
+        12 | 13 => format!("errors byte {}", at - 12),
+        14 | 15 => format!("underruns byte {}", at - 14),
+        16 => "loaded".into(),
+        17 => "protected".into(),
+        19 => "mode".into(),
+        21 => "EXCEPTION".into(),
+        22..=29 => bits[at - 22].into(),
+        _ => "unused".into(),
     }
+}
+
+/// These offsets of a drive, in each of the four.
+pub fn in_drives(places: &[usize]) -> impl Iterator<Item = usize> + '_ {
+    (0..4).flat_map(move |drive| places.iter().map(move |at| DRIVES + drive * DRIVE + at))
 }
 
 /// Offsets of all bytes that are 0 or 1.
 pub fn bools() -> Vec<usize> {
-    let of_drive = |drive: usize| [0, 1].into_iter().chain(11..=18).map(move |at| (drive, at));
-    let drives = (0..4).flat_map(of_drive).map(|(drive, at)| DRIVES + drive * DRIVE + at);
-    std::iter::once(9).chain(drives).collect()
+    let of_drives = in_drives(&[16, 17, 21, 22, 23, 24, 26, 27, 28, 29]);
+    std::iter::once(ONLINE).chain(of_drives).collect()
 }
 
 /// Offsets of the four modes.
-pub fn modes() -> [usize; 4] {
-    std::array::from_fn(|drive| DRIVES + drive * DRIVE + 10)
+pub fn modes() -> Vec<usize> {
+    in_drives(&[19]).collect()
+}
+
+/// Offsets of all bytes that no field has.
+pub fn unused() -> Vec<usize> {
+    in_drives(&[8, 9, 10, 11, 18, 20, 25, 30, 31]).collect()
 }

@@ -25,11 +25,11 @@ const CAN: [(&str, &[usize]); 12] = [
 const FLAWS: [Flaw; 7] = [
     Flaw::Length,
     Flaw::Version,
-    Flaw::Selected,
     Flaw::Bool,
     Flaw::Phase,
     Flaw::NumberAtRest,
     Flaw::Mode,
+    Flaw::Unused,
 ];
 
 /// How often each thing came.

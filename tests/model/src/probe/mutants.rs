@@ -2,7 +2,7 @@
 
 use crate::mutants::{self, hidden};
 use crate::probe::board::{step_with, Board, Model};
-use crate::probe::codec::{self, DRIVE, DRIVES, SIZE};
+use crate::probe::codec::{self, DRIVE, DRIVES, NUMBER, ONLINE, PHASE, SIZE, VERSION};
 use crate::{Lines, Outcome, Tapes};
 
 /// How the bytes of a record are misread.
@@ -16,20 +16,20 @@ enum Misread {
 use Misread::{Both, In};
 
 const MISREAD: [(&str, Misread); 14] = [
-    ("errors and underruns exchanged", Both(|bytes| swap(bytes, 19, 21, 2))),
-    ("loaded and protected exchanged", Both(|bytes| swap(bytes, 0, 1, 1))),
-    ("latched FIL and ILL exchanged", Both(|bytes| swap(bytes, 15, 16, 1))),
+    ("errors and underruns exchanged", Both(|bytes| swap(bytes, 12, 14, 2))),
+    ("loaded and protected exchanged", Both(|bytes| swap(bytes, 16, 17, 1))),
+    ("latched FIL and ILL exchanged", Both(|bytes| swap(bytes, 26, 27, 1))),
     ("drives 1 and 2 exchanged", Both(|bytes| exchange(bytes, DRIVES + DRIVE, DRIVES + 2 * DRIVE))),
     ("heads with the high byte first", Both(|bytes| reverse_heads(bytes))),
-    ("of the selected number the low byte counts", In(|bytes| short_selected(bytes))),
-    ("a bool above 1 is 1", In(|bytes| at_most(bytes, DRIVES + 3 * DRIVE + 18, 1))),
-    ("ONLINE above 1 is 1", In(|bytes| at_most(bytes, 9, 1))),
-    ("version 0 is a record", In(|bytes| raise(bytes, 0))),
+    ("what stands in unused room is passed over", In(|bytes| clear_unused(bytes))),
+    ("a bool above 1 is 1", In(|bytes| at_most(bytes, DRIVES + 3 * DRIVE + 29, 1))),
+    ("ONLINE above 1 is 1", In(|bytes| at_most(bytes, ONLINE, 1))),
+    ("a version below is a record", In(|bytes| raise(bytes, 0, VERSION))),
     ("a number at Rest is passed over", In(|bytes| number_at_rest(bytes))),
-    ("a phase above 3 is Status", In(|bytes| at_most(bytes, 10, 3))),
-    ("a mode above 2 is Reading", In(|bytes| at_most(bytes, DRIVES + 10, 2))),
+    ("a phase above 3 is Status", In(|bytes| at_most(bytes, PHASE, 3))),
+    ("a mode above 2 is Reading", In(|bytes| at_most(bytes, DRIVES + 19, 2))),
     ("heads have 32 bits", In(|bytes| short_heads(bytes))),
-    ("a record of 630 bytes is one", In(|bytes| bytes.truncate(bytes.len() - bytes.len() / 630))),
+    ("a record of 659 bytes is one", In(|bytes| bytes.truncate(bytes.len() - bytes.len() / 659))),
 ];
 
 const CALLS: [(&str, Call); 6] = [
@@ -38,7 +38,7 @@ const CALLS: [(&str, Call); 6] = [
     ("a fresh record in a longer buffer", Call::FreshLonger),
     ("a fresh record without POR in drive 3", Call::FreshQuiet),
     ("a buffer of another length is cleared", Call::FreshClears),
-    ("a record is said to have 628 bytes", Call::Size),
+    ("a record is said to have 657 bytes", Call::Size),
 ];
 
 #[derive(Clone, Copy, PartialEq)]
@@ -137,7 +137,7 @@ impl Board for Calling {
             (Call::FreshLonger, SIZE..) => Model.fresh(&mut record[..SIZE]),
             (Call::FreshQuiet, SIZE) => {
                 let returned = Model.fresh(record);
-                record[DRIVES + 3 * DRIVE + 18] = 0;
+                record[DRIVES + 3 * DRIVE + 29] = 0;
                 returned
             }
             (Call::FreshClears, length) if length != SIZE => {
@@ -177,10 +177,8 @@ fn reverse_heads(bytes: &mut [u8]) {
     heads(bytes, |head| head.reverse());
 }
 
-fn short_selected(bytes: &mut [u8]) {
-    if let Some(high) = bytes.get_mut(2..9) {
-        high.fill(0);
-    }
+fn clear_unused(bytes: &mut [u8]) {
+    codec::unused().into_iter().for_each(|at| at_most(bytes, at, 0));
 }
 
 fn short_heads(bytes: &mut [u8]) {
@@ -188,8 +186,8 @@ fn short_heads(bytes: &mut [u8]) {
 }
 
 fn heads(bytes: &mut [u8], bend: fn(&mut [u8])) {
-    for at in codec::modes() {
-        if let Some(head) = bytes.get_mut(at - 8..at) {
+    for at in codec::in_drives(&[0]) {
+        if let Some(head) = bytes.get_mut(at..at + 8) {
             bend(head);
         }
     }
@@ -201,14 +199,14 @@ fn at_most(bytes: &mut [u8], at: usize, most: u8) {
     }
 }
 
-fn raise(bytes: &mut [u8], at: usize) {
+fn raise(bytes: &mut [u8], at: usize, least: u8) {
     if let Some(byte) = bytes.get_mut(at) {
-        *byte = 1.max(*byte);
+        *byte = least.max(*byte);
     }
 }
 
 fn number_at_rest(bytes: &mut [u8]) {
-    if bytes.len() == SIZE && bytes[10] == 0 {
-        bytes[11..19].fill(0);
+    if bytes.len() == SIZE && bytes[PHASE] == 0 {
+        bytes[NUMBER].fill(0);
     }
 }

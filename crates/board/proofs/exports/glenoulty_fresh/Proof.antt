@@ -1,6 +1,6 @@
 -- A buffer of the right size gets the bytes of the fresh unit; any other is left alone.
 use Rattle.layout.specs.Written.{unitBytes}
-use Rattle.tape.specs.Choice.{pick}
+use Rattle.basis.specs.Choice.{pick}
 use borrow.Author.Tests.{eq-eqb, ne-eqb}
 use mathlib.Core.Path.{refl, ap, _∙_}
 use borrow.Author.Needs.{needs}

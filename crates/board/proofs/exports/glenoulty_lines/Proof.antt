@@ -1,8 +1,8 @@
 -- The lines of a possible record, else the lines down.
 use Rattle.board.proofs.Held.{held-long}
-use Rattle.tape.specs.Choice.{pick}
+use Rattle.basis.specs.Choice.{pick}
 use mathlib.Core.Path.{refl}
-use Rattle.rules.specs.Tests.{told}
+use Rattle.basis.specs.Tests.{told}
 use borrow.Author.Needs.{needs}
 use Rattle.board.proofs.exports.glenoulty_lines.Statement.{statement}
 use Rattle.board.proofs.exports.glenoulty_lines.Tie as tie

@@ -2,7 +2,7 @@
 use Rattle.board.proofs.Held.{record-long}
 use Rattle.board.specs.Serve.{of-record, of-none}
 use mathlib.Core.Path.{refl}
-use Rattle.rules.specs.Tests.{told}
+use Rattle.basis.specs.Tests.{told}
 use borrow.Author.Needs.{needs}
 use Rattle.board.proofs.exports.glenoulty_step.Statement.{statement}
 use Rattle.board.proofs.exports.glenoulty_step.Tie as tie

@@ -1,7 +1,7 @@
 -- Only a record is read and asked whether it is possible.
 use Rattle.board.proofs.Held.{record-long}
 use Rattle.board.specs.Serve.{holds}
-use Rattle.rules.specs.Tests.{told}
+use Rattle.basis.specs.Tests.{told}
 use borrow.Author.Needs.{needs}
 use Rattle.board.proofs.exports.holds.Statement.{statement}
 use Rattle.board.proofs.exports.holds.Tie as tie

@@ -4,12 +4,6 @@ use borrow.Author.Needs.{needs}
 use Rattle.layout.proofs.read.drive_of.Statement.{statement}
 use Rattle.layout.proofs.read.drive_of.Tie as tie
 
-element-copy-out-mode-of : tie.Need-element-copy-out-mode-of
-element-copy-out-mode-of c = search needs
-
-mode-of-requires : tie.Need-mode-of-requires
-mode-of-requires c κs = search needs
-
 element-copy-out-of-four : tie.Need-element-copy-out-of-four
 element-copy-out-of-four c = search needs
 
@@ -43,17 +37,14 @@ of-four-requires-2 c κs = search needs
 of-eight-requires : tie.Need-of-eight-requires
 of-eight-requires c κs = search needs
 
+element-copy-out-mode-of : tie.Need-element-copy-out-mode-of
+element-copy-out-mode-of c = search needs
+
+mode-of-requires : tie.Need-mode-of-requires
+mode-of-requires c κs = search needs
+
 latched-of-requires : tie.Need-latched-of-requires
 latched-of-requires c κs = search needs
-
-element-copy-out-t7 : tie.Need-element-copy-out-t7
-element-copy-out-t7 c = search needs
-
-element-copy-out-t32 : tie.Need-element-copy-out-t32
-element-copy-out-t32 c = search needs
-
-element-copy-out-t29 : tie.Need-element-copy-out-t29
-element-copy-out-t29 c = search needs
 
 element-copy-out-of-two : tie.Need-element-copy-out-of-two
 element-copy-out-of-two c = search needs
@@ -73,30 +64,39 @@ element-copy-out-of-two-4 c = search needs
 of-two-requires-2 : tie.Need-of-two-requires-2
 of-two-requires-2 c κs = search needs
 
+element-copy-out-t21 : tie.Need-element-copy-out-t21
+element-copy-out-t21 c = search needs
+
+element-copy-out-t11 : tie.Need-element-copy-out-t11
+element-copy-out-t11 c = search needs
+
+element-copy-out-t17 : tie.Need-element-copy-out-t17
+element-copy-out-t17 c = search needs
+
 returns : tie.Need-returns
 unfolding driveOf
 returns c =
-    let latched = c .before .before .before .before .before .before .before .before .before in
-    let head = latched .before in
+    let underruns = c .before .before .before in
+    let errors = underruns .before .before .before in
+    let latched = errors .before .before .before in
+    let mode = latched .before in
+    let head = mode .before .before in
     let high = head .before in
     let low = high .before .before .before .before .before in
-    let mode = low .before .before .before .before .before in
     rw (
-      c .of-two2 .ensures,
-      c .before .before .before .of-two .ensures,
+      underruns .of-two2 .ensures,
+      errors .of-two .ensures,
       latched .latched-of .ensures,
+      mode .mode-of .ensures,
       head .of-eight .ensures,
       high .of-four2 .ensures,
       low .of-four .ensures,
-      mode .mode-of .ensures,
     )
 
 pub drive-of-spec : {M : Type 1} → statement M
 drive-of-spec =
     tie.close
     (tie.spec
-    element-copy-out-mode-of
-    mode-of-requires
     element-copy-out-of-four
     element-copy-out-of-four-2
     element-copy-out-of-four-3
@@ -108,14 +108,16 @@ drive-of-spec =
     element-copy-out-of-four-8
     of-four-requires-2
     of-eight-requires
+    element-copy-out-mode-of
+    mode-of-requires
     latched-of-requires
-    element-copy-out-t7
-    element-copy-out-t32
-    element-copy-out-t29
     element-copy-out-of-two
     element-copy-out-of-two-2
     of-two-requires
     element-copy-out-of-two-3
     element-copy-out-of-two-4
     of-two-requires-2
+    element-copy-out-t21
+    element-copy-out-t11
+    element-copy-out-t17
     returns)

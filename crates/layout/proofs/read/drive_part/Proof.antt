@@ -26,7 +26,7 @@ copy-requires c κs = search needs
 returns : tie.Need-returns
 returns c =
     let a = c .before .before .before .before .before .args in
-    part-copied (a .buffer .now) (a .at) _ 23 _ _ refl refl (search needs) (c .before .copy .ensures .1)
+    part-copied (a .buffer .now) (a .at) _ 32 _ _ refl refl (search needs) (c .before .copy .ensures .1)
 
 pub drive-part-spec : {M : Type 1} → statement M
 drive-part-spec =

@@ -1,4 +1,4 @@
--- The tests of a drive, the latched bits by their own.
+-- The tests of a drive; the latched bits and the room have their own.
 use Rattle.layout.specs.Read.{isDrive}
 use borrow.Author.Needs.{needs}
 use Rattle.layout.proofs.read.is_drive.Statement.{statement}
@@ -19,9 +19,12 @@ element-copy-out-result-4 c = search needs
 is-latched-requires : tie.Need-is-latched-requires
 is-latched-requires c κs = search needs
 
+leaves-room-requires : tie.Need-leaves-room-requires
+leaves-room-requires c κs = search needs
+
 returns : tie.Need-returns
 unfolding isDrive
-returns c = rw (c .is-latched .ensures)
+returns c = rw (c .leaves-room .ensures, c .before .is-latched .ensures)
 
 pub is-drive-spec : {M : Type 1} → statement M
 is-drive-spec =
@@ -32,4 +35,5 @@ is-drive-spec =
     element-copy-out-result-3
     element-copy-out-result-4
     is-latched-requires
+    leaves-room-requires
     returns)

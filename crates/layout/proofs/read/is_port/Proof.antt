@@ -4,27 +4,6 @@ use borrow.Author.Needs.{needs}
 use Rattle.layout.proofs.read.is_port.Statement.{statement}
 use Rattle.layout.proofs.read.is_port.Tie as tie
 
-element-copy-out-padded : tie.Need-element-copy-out-padded
-element-copy-out-padded c = search needs
-
-element-copy-out-padded-2 : tie.Need-element-copy-out-padded-2
-element-copy-out-padded-2 c = search needs
-
-element-copy-out-padded-3 : tie.Need-element-copy-out-padded-3
-element-copy-out-padded-3 c = search needs
-
-element-copy-out-padded-4 : tie.Need-element-copy-out-padded-4
-element-copy-out-padded-4 c = search needs
-
-element-copy-out-padded-5 : tie.Need-element-copy-out-padded-5
-element-copy-out-padded-5 c = search needs
-
-element-copy-out-padded-6 : tie.Need-element-copy-out-padded-6
-element-copy-out-padded-6 c = search needs
-
-element-copy-out-padded-7 : tie.Need-element-copy-out-padded-7
-element-copy-out-padded-7 c = search needs
-
 element-copy-out-result : tie.Need-element-copy-out-result
 element-copy-out-result c = search needs
 
@@ -48,13 +27,6 @@ pub is-port-spec : {M : Type 1} → statement M
 is-port-spec =
     tie.close
     (tie.spec
-    element-copy-out-padded
-    element-copy-out-padded-2
-    element-copy-out-padded-3
-    element-copy-out-padded-4
-    element-copy-out-padded-5
-    element-copy-out-padded-6
-    element-copy-out-padded-7
     element-copy-out-result
     element-copy-out-result-2
     element-copy-out-is-phase

@@ -1,7 +1,7 @@
 -- Another length is no record; else the port and each drive are tested on their own stretch.
 use borrow.Author.Tests.{eq-eqb}
 use Rattle.layout.specs.Read.{isRecord}
-use Rattle.rules.specs.Tests.{tests}
+use Rattle.basis.specs.Tests.{tests}
 use borrow.Author.Needs.{needs}
 use Rattle.layout.proofs.read.is_record.Statement.{statement}
 use Rattle.layout.proofs.read.is_record.Tie as tie
@@ -43,15 +43,16 @@ is-drive-requires-4 c κs = search needs
 returns-2 : tie.Need-returns-2
 unfolding isRecord
 returns-2 c =
-    let port = c .before .before .before .before .before .before .before .before in
+    let drive1 = c .before .before .before .before in
+    let port = drive1 .before .before .before .before in
     let parts = port .before .before in
     let start = parts .before .before .before .before in
     rw (
       eq-eqb _ _ (start .before .if1 .left),
       c .is-drive4 .ensures,
       c .before .before .is-drive3 .ensures,
-      c .before .before .before .before .is-drive2 .ensures,
-      c .before .before .before .before .before .before .is-drive .ensures,
+      drive1 .is-drive2 .ensures,
+      drive1 .before .before .is-drive .ensures,
       port .is-port .ensures,
       parts .drive-part4 .ensures,
       parts .before .drive-part3 .ensures,

@@ -1,4 +1,4 @@
--- The copy is the first stretch, of 25 bytes.
+-- The copy is the first stretch, of 18 bytes.
 use Rattle.layout.proofs.Parts.{part-copied}
 use mathlib.Core.Path.{refl}
 use borrow.Author.Needs.{needs}
@@ -23,7 +23,7 @@ copy-requires c κs = search needs
 returns : tie.Need-returns
 returns c =
     let a = c .before .before .before .before .before .args in
-    part-copied (a .buffer .now) 0 25 25 _ _ refl refl (search needs) (c .before .copy .ensures .1)
+    part-copied (a .buffer .now) 0 18 18 _ _ refl refl (search needs) (c .before .copy .ensures .1)
 
 pub port-part-spec : {M : Type 1} → statement M
 port-part-spec =

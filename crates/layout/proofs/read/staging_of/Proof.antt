@@ -25,7 +25,7 @@ returns : tie.Need-returns
 unfolding stagingOf
 returns c =
     let a = c .before .before .before .before .before .args in
-    part-copied (a .buffer .now) 117 629 512 _ _ refl (search needs) (search needs) (c .before .copy .ensures .1)
+    part-copied (a .buffer .now) 146 658 512 _ _ refl (search needs) (search needs) (c .before .copy .ensures .1)
 
 pub staging-of-spec : {M : Type 1} → statement M
 staging-of-spec =

@@ -1,13 +1,12 @@
 -- The array has what the calls made, byte for byte as the port is laid out.
-use Rattle.layout.specs.Number.{eight}
-use mathlib.Core.Path.{ap, _∙_}
-use Rattle.layout.proofs.Parts.{port-listed}
+use Rattle.layout.proofs.Parts.{six}
+use Rattle.layout.specs.Written.{portBytes}
 use borrow.Author.Needs.{needs}
 use Rattle.layout.proofs.write.port_bytes.Statement.{statement}
 use Rattle.layout.proofs.write.port_bytes.Tie as tie
 
-phase-number-requires : tie.Need-phase-number-requires
-phase-number-requires c κs = search needs
+how-far-requires : tie.Need-how-far-requires
+how-far-requires c κs = search needs
 
 eight-requires : tie.Need-eight-requires
 eight-requires c κs = search needs
@@ -15,8 +14,8 @@ eight-requires c κs = search needs
 flag-requires : tie.Need-flag-requires
 flag-requires c κs = search needs
 
-phase-byte-requires : tie.Need-phase-byte-requires
-phase-byte-requires c κs = search needs
+which-requires : tie.Need-which-requires
+which-requires c κs = search needs
 
 array-read-t11 : tie.Need-array-read-t11
 array-read-t11 c = search needs
@@ -61,21 +60,25 @@ array-read-t50 : tie.Need-array-read-t50
 array-read-t50 c = search needs
 
 returns : tie.Need-returns
+unfolding portBytes
 returns c =
     let number = c .before .before .before in
-    port-listed (number .before .before .args .port) _ _ _ (search needs)
-    (number .eight .ensures ∙ ap eight (number .before .phase-number .ensures))
-    (c .before .flag .ensures)
-    (c .phase-byte .ensures)
+    rw (
+      c .which .ensures,
+      c .before .flag .ensures,
+      number .eight .ensures,
+      number .before .how-far .ensures,
+      six (number .before .before .args .port .octets) (search needs),
+    )
 
 pub port-bytes-spec : {M : Type 1} → statement M
 port-bytes-spec =
     tie.close
     (tie.spec
-    phase-number-requires
+    how-far-requires
     eight-requires
     flag-requires
-    phase-byte-requires
+    which-requires
     array-read-t11
     array-read-t14
     array-read-t17

@@ -32,23 +32,24 @@ same-length c = search needs
 
 returns : tie.Need-returns
 returns c =
-    let drive1 = c .before .before .before .before .before .before .before .before .before .before .before .before .before .before .before in
-    let start = drive1 .before .before .before .before .before .before .before .before .before .before .before in
-    let a = start .args in
-    let long : length (a .staging .now) ≡ bodySize = search needs in
-    let drive3 = c .before .before .before .before .before .before .before in
+    let staged = c .before .before .before in
+    let drive3 = staged .before .before .before .before in
     let drive2 = drive3 .before .before .before .before in
+    let drive1 = drive2 .before .before .before .before in
     let drive0 = drive1 .before .before .before .before in
     let port = drive0 .before .before .before .before in
+    let start = port .before .before .before in
+    let a = start .args in
+    let long : length (a .staging .now) ≡ bodySize = staged .put-arg2 .given .0 in
     let k = a .core in
     let sized = port .put-port .ensures .1 in
     let w0 = nothing-yet (a .buffer .now) (start .pre) in
-    let w1 = put-on (portBytes (k .port)) 0 25 w0 (port-long (k .port) sized) (omega arith) (port .put-port .ensures .0) in
-    let w2 = put-on (driveBytes (k .drive0)) 25 23 w1 (drive-long (k .drive0)) (omega arith) (drive0 .put-drive .ensures) in
-    let w3 = put-on (driveBytes (k .drive1)) 48 23 w2 (drive-long (k .drive1)) (omega arith) (drive1 .put-drive2 .ensures) in
-    let w4 = put-on (driveBytes (k .drive2)) 71 23 w3 (drive-long (k .drive2)) (omega arith) (drive2 .put-drive3 .ensures) in
-    let w5 = put-on (driveBytes (k .drive3)) 94 23 w4 (drive-long (k .drive3)) (omega arith) (drive3 .put-drive4 .ensures) in
-    let w6 = put-on (a .staging .now) 117 512 w5 long (omega arith) (c .before .before .put .ensures) in
+    let w1 = put-on (portBytes (k .port)) 0 18 w0 (port-long (k .port) sized) (omega arith) (port .put-port .ensures .0) in
+    let w2 = put-on (driveBytes (k .drive0)) 18 32 w1 (drive-long (k .drive0)) (omega arith) (drive0 .put-drive .ensures) in
+    let w3 = put-on (driveBytes (k .drive1)) 50 32 w2 (drive-long (k .drive1)) (omega arith) (drive1 .put-drive2 .ensures) in
+    let w4 = put-on (driveBytes (k .drive2)) 82 32 w3 (drive-long (k .drive2)) (omega arith) (drive2 .put-drive3 .ensures) in
+    let w5 = put-on (driveBytes (k .drive3)) 114 32 w4 (drive-long (k .drive3)) (omega arith) (drive3 .put-drive4 .ensures) in
+    let w6 = put-on (a .staging .now) 146 512 w5 long (omega arith) (c .before .before .put .ensures) in
     (all-written _ k (a .staging .now) w6, record { octets = sized; staging = long })
 
 pub write-record-spec : {M : Type 1} → statement M

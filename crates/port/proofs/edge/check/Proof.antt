@@ -1,6 +1,6 @@
 -- The head moves past a mark only where one is found, so the sum is inside the tape.
 use Rattle.rules.specs.Edge.{checked}
-use Rattle.rules.specs.Tests.{told}
+use Rattle.basis.specs.Tests.{told}
 use Rattle.tape.proofs.Standing.{mark-fits}
 use borrow.Author.Needs.{needs}
 use native.Mathlib.Omega.{arith}

@@ -1,4 +1,4 @@
-use Rattle.tape.specs.Choice.{pick}
+use Rattle.basis.specs.Choice.{pick}
 use borrow.Author.Needs.{needs}
 use Rattle.port.proofs.effect.carry_out.Statement.{statement}
 use Rattle.port.proofs.effect.carry_out.Tie as tie

@@ -1,7 +1,7 @@
 -- An order that passed the tests has the room that `carry_out` requires.
 use Rattle.port.proofs.Tested.{fine-has-room}
 use Rattle.rules.specs.Effect.{faultOf}
-use Rattle.rules.specs.Tests.{told}
+use Rattle.basis.specs.Tests.{told}
 use borrow.Author.Needs.{needs}
 use lib.ListN.{length}
 use Rattle.port.proofs.effect.command.Statement.{statement}

@@ -1,6 +1,6 @@
 use Rattle.rules.specs.Bytes.{afterBlock}
-use Rattle.rules.specs.Tests.{told}
-use Rattle.tape.specs.Choice.{pick}
+use Rattle.basis.specs.Tests.{told}
+use Rattle.basis.specs.Choice.{pick}
 use borrow.Author.Needs.{needs}
 use Rattle.port.proofs.given.after_block.Statement.{statement}
 use Rattle.port.proofs.given.after_block.Tie as tie

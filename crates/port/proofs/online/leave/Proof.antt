@@ -1,6 +1,6 @@
 use Rattle.port.proofs.Level.{leaving-else, leaving-writing}
 use Rattle.rules.specs.Effect.{seat}
-use Rattle.rules.specs.Tests.{told}
+use Rattle.basis.specs.Tests.{told}
 use borrow.Author.Needs.{needs}
 use mathlib.Core.Path.{_∙_}
 use Rattle.port.proofs.online.leave.Statement.{statement}

@@ -1,6 +1,6 @@
 -- A byte is handed out where the check raised nothing: a whole block stands there.
 use Rattle.port.proofs.Whole.{unraised}
-use Rattle.tape.specs.Choice.{pick}
+use Rattle.basis.specs.Choice.{pick}
 use borrow.Author.Needs.{needs}
 use Rattle.port.proofs.taken.take_first.Statement.{statement}
 use Rattle.port.proofs.taken.take_first.Tie as tie

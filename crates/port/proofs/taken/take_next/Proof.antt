@@ -1,5 +1,5 @@
 use Rattle.port.proofs.Whole.{whole}
-use Rattle.tape.specs.Choice.{pick}
+use Rattle.basis.specs.Choice.{pick}
 use borrow.Author.Needs.{needs}
 use Rattle.port.proofs.taken.take_next.Statement.{statement}
 use Rattle.port.proofs.taken.take_next.Tie as tie

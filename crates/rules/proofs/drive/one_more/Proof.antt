@@ -1,6 +1,6 @@
 use Rattle.rules.specs.Drive.{counted}
-use Rattle.rules.specs.Tests.{tests}
-use Rattle.tape.specs.Choice.{pick}
+use Rattle.basis.specs.Tests.{tests}
+use Rattle.basis.specs.Choice.{pick}
 use borrow.Author.Needs.{needs}
 use Rattle.rules.proofs.drive.one_more.Statement.{statement}
 use Rattle.rules.proofs.drive.one_more.Tie as tie

@@ -1,4 +1,4 @@
-use Rattle.tape.specs.Choice.{pick}
+use Rattle.basis.specs.Choice.{pick}
 use Rattle.trace.specs.Cut.{cutBy, cutOf}
 use borrow.Author.Needs.{needs}
 use borrow.Author.Tests.{eq-eqb, le-leb, lt-leb, ne-eqb}
@@ -17,15 +17,15 @@ kind-size-requires c κs = search needs
 
 returns-2 : tie.Need-returns-2
 unfolding cutOf cutBy pick
-returns-2 c = rw (ne-eqb _ _ (c .before .before .before .if1 .left), ← c .before .kind-size .ensures, eq-eqb _ _ (c .if2 .taken))
+returns-2 c = rw (ne-eqb _ _ (c .before .before .before .if1 .left), ← c .before .kind-size .ensures .0, eq-eqb _ _ (c .if2 .taken))
 
 returns-3 : tie.Need-returns-3
 unfolding cutOf cutBy pick
-returns-3 c = rw (ne-eqb _ _ (c .before .before .before .before .if1 .left), ← c .before .before .kind-size .ensures, ne-eqb _ _ (c .before .if2 .left), le-leb _ _ (c .if3 .taken))
+returns-3 c = rw (ne-eqb _ _ (c .before .before .before .before .if1 .left), ← c .before .before .kind-size .ensures .0, ne-eqb _ _ (c .before .if2 .left), le-leb _ _ (c .if3 .taken))
 
 returns-4 : tie.Need-returns-4
 unfolding cutOf cutBy pick
-returns-4 c = rw (ne-eqb _ _ (c .before .before .before .before .if1 .left), ← c .before .before .kind-size .ensures, ne-eqb _ _ (c .before .if2 .left), lt-leb _ _ (c .if3 .left))
+returns-4 c = rw (ne-eqb _ _ (c .before .before .before .before .if1 .left), ← c .before .before .kind-size .ensures .0, ne-eqb _ _ (c .before .if2 .left), lt-leb _ _ (c .if3 .left))
 
 pub next-event-spec : {M : Type 1} → statement M
 next-event-spec =

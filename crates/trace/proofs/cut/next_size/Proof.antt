@@ -1,4 +1,4 @@
-use Rattle.tape.specs.Choice.{pick}
+use Rattle.basis.specs.Choice.{pick}
 use Rattle.trace.specs.Cut.{nextSize}
 use borrow.Author.Needs.{needs}
 use Rattle.trace.proofs.cut.next_size.Statement.{statement}

@@ -1,4 +1,4 @@
-use Rattle.trace.proofs.Digits.{one-digit}
+use Rattle.trace.proofs.Lengths.{one-digit}
 use Rattle.trace.specs.Line.{fieldsOf}
 use borrow.Author.Needs.{needs}
 use Rattle.trace.proofs.line.fields.Statement.{statement}
@@ -10,11 +10,11 @@ number-requires c κs = search needs
 digit-requires : tie.Need-digit-requires
 digit-requires c κs = rw (c .number .ensures) (one-digit (c .before .args .answer))
 
-digit-requires-2 : tie.Need-digit-requires-2
-digit-requires-2 c κs = search needs
+high-digit-requires : tie.Need-high-digit-requires
+high-digit-requires c κs = search needs
 
-digit-requires-3 : tie.Need-digit-requires-3
-digit-requires-3 c κs = search needs
+low-digit-requires : tie.Need-low-digit-requires
+low-digit-requires c κs = search needs
 
 or-dash-requires : tie.Need-or-dash-requires
 or-dash-requires c κs = search needs
@@ -33,7 +33,7 @@ or-dash-requires-5 c κs = search needs
 
 returns : tie.Need-returns
 unfolding fieldsOf
-returns c = rw (c .or-dash5 .ensures, c .before .or-dash4 .ensures, c .before .before .or-dash3 .ensures, c .before .before .before .or-dash2 .ensures, c .before .before .before .before .or-dash .ensures, c .before .before .before .before .before .digit3 .ensures, c .before .before .before .before .before .before .digit2 .ensures, c .before .before .before .before .before .before .before .digit .ensures, c .before .before .before .before .before .before .before .before .number .ensures)
+returns c = rw (c .or-dash5 .ensures, c .before .or-dash4 .ensures, c .before .before .or-dash3 .ensures, c .before .before .before .or-dash2 .ensures, c .before .before .before .before .or-dash .ensures, c .before .before .before .before .before .low-digit .ensures, c .before .before .before .before .before .before .high-digit .ensures, c .before .before .before .before .before .before .before .digit .ensures, c .before .before .before .before .before .before .before .before .number .ensures)
 
 pub fields-spec : {M : Type 1} → statement M
 fields-spec =
@@ -41,8 +41,8 @@ fields-spec =
     (tie.spec
     number-requires
     digit-requires
-    digit-requires-2
-    digit-requires-3
+    high-digit-requires
+    low-digit-requires
     or-dash-requires
     or-dash-requires-2
     or-dash-requires-3

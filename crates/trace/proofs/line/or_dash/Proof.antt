@@ -1,4 +1,4 @@
-use Rattle.tape.specs.Choice.{pick}
+use Rattle.basis.specs.Choice.{pick}
 use Rattle.trace.specs.Line.{orDash}
 use Rattle.trace.proofs.line.or_dash.Statement.{statement}
 use Rattle.trace.proofs.line.or_dash.Tie as tie

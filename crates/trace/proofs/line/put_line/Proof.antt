@@ -1,5 +1,6 @@
-use Rattle.trace.proofs.Placing.{placed-then}
-use Rattle.trace.specs.Line.{decimal, fieldsOf, lineOf, lineSize}
+use Rattle.basis.proofs.Placing.{placed-then}
+use Rattle.basis.specs.Text.{decimal}
+use Rattle.trace.specs.Line.{fieldsOf, lineOf, lineSize}
 use borrow.Author.Needs.{needs}
 use native.Mathlib.Omega.{arith}
 use Rattle.trace.proofs.line.put_line.Statement.{statement}

@@ -1,8 +1,10 @@
 use Prim.Native.Nat.{_+_}
-use Rattle.rules.specs.Tests.{told}
-use Rattle.tape.specs.Choice.{pick}
-use Rattle.trace.proofs.Digits.{few-digits, line-length}
-use Rattle.trace.specs.Line.{decimal, lineSize, shownAt}
+use Rattle.basis.specs.Tests.{told}
+use Rattle.basis.specs.Choice.{pick}
+use Rattle.basis.proofs.Digits.{few-digits}
+use Rattle.trace.proofs.Lengths.{line-length}
+use Rattle.basis.specs.Text.{decimal}
+use Rattle.trace.specs.Line.{lineSize, shownAt}
 use borrow.Author.Needs.{needs}
 use borrow.Author.Tests.{leb-true}
 use lib.ListN.{length}

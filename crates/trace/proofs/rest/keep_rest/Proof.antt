@@ -1,6 +1,6 @@
-use Rattle.tape.specs.Choice.{pick}
+use Rattle.basis.specs.Choice.{pick}
 use Rattle.trace.proofs.Keeping.{both-bounds}
-use Rattle.trace.specs.Rest.{keptOf}
+use Rattle.trace.specs.Rest.{restOf}
 use borrow.Author.Needs.{needs}
 use lib.ListN.{length}
 use native.Mathlib.Omega.{arith}
@@ -17,11 +17,11 @@ same-length : tie.Need-same-length
 same-length c = search needs
 
 returns : tie.Need-returns
-unfolding keptOf pick
+unfolding restOf pick
 returns c = let a = c .before .before .before .before .before .before .args in let h = both-bounds (a .from) (a .to) (length (a .buffer .now)) (c .before .before .before .before .if1 .taken) in record { is = rw (c .before .before .before .before .if1 .taken, c .before .before .move-front .ensures); inside = omega arith }
 
 returns-2 : tie.Need-returns-2
-unfolding keptOf pick
+unfolding restOf pick
 returns-2 c = record { is = rw (c .if1 .left); inside = omega arith }
 
 pub keep-rest-spec : {M : Type 1} → statement M

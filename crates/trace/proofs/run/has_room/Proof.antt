@@ -1,5 +1,5 @@
 use Prim.Native.Nat.{_+_}
-use Rattle.trace.proofs.Digits.{few-digits}
+use Rattle.basis.proofs.Digits.{few-digits}
 use Rattle.trace.specs.Line.{lineSize}
 use Rattle.trace.specs.Play.{hasRoom}
 use borrow.Author.Needs.{needs}

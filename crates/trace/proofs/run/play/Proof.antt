@@ -1,6 +1,6 @@
 use Prim.Native.Nat.{_-_}
 use Rattle.rules.specs.Run.{world}
-use Rattle.rules.specs.Tests.{told}
+use Rattle.basis.specs.Tests.{told}
 use Rattle.rules.specs.Unit.{lent}
 use Rattle.trace.proofs.Playing.{Runs, at-start, event-inside, goes-no-further, goes-on, halts, no-room, none-left}
 use Rattle.trace.proofs.Turning.{room-fits}

@@ -1,10 +1,10 @@
 -- Refused, or staged, acted and put back: what each call ensures comes to the book's act.
 use Rattle.unit.proofs.Settling.{own-lands, own-refused}
-use Rattle.unit.specs.Meant.{kept}
+use Rattle.unit.specs.Own.{ownTurn}
 use Rattle.rules.specs.Step.{act}
 use Rattle.rules.specs.declared.answer.Turn.{Turn}
 use mathlib.Core.Path.{ap, _∙_}
-use Rattle.rules.specs.Tests.{told}
+use Rattle.basis.specs.Tests.{told}
 use borrow.Author.Needs.{needs}
 use Rattle.unit.proofs.own.act_on.Statement.{statement}
 use Rattle.unit.proofs.own.act_on.Tie as tie
@@ -31,7 +31,7 @@ refuse-requires : tie.Need-refuse-requires
 refuse-requires c κs = search needs
 
 returns : tie.Need-returns
-returns c = let a = c .before .before .before .before .before .before .before .before .before .before .args in let answer = rw (c .before .before .before .before .unless .ensures, c .before .before .before .before .before .in-step .ensures, c .before .before .before .before .before .before .reads .ensures, c .before .before .before .before .before .before .before .writes .ensures) at (c .before .before .before .refusal-by .ensures) in ap (λ (x : Turn). kept x (a .staging .now) (a .tape .now)) (c .refuse .ensures) ∙ own-refused (a .core) (a .sound) (a .near) (a .drive) (a .staging .now) (a .tape .now) (a .a) _ answer (told (c .before .before .refuses .ensures) (c .before .if1 .taken))
+returns c = let a = c .before .before .before .before .before .before .before .before .before .before .args in let answer = rw (c .before .before .before .before .unless .ensures, c .before .before .before .before .before .in-step .ensures, c .before .before .before .before .before .before .reads .ensures, c .before .before .before .before .before .before .before .writes .ensures) at (c .before .before .before .refusal-by .ensures) in ap (λ (x : Turn). ownTurn x (a .staging .now) (a .tape .now)) (c .refuse .ensures) ∙ own-refused (a .core) (a .possible) (a .short) (a .drive) (a .staging .now) (a .tape .now) (a .a) _ answer (told (c .before .before .refuses .ensures) (c .before .if1 .taken))
 
 stage-requires : tie.Need-stage-requires
 stage-requires c κs = search needs
@@ -49,7 +49,7 @@ same-length : tie.Need-same-length
 same-length c = search needs
 
 returns-2 : tie.Need-returns-2
-returns-2 c = let a = c .before .before .before .before .before .before .before .before .before .before .before .before .before .before .before .before .before .before .before .before .args in let answer = rw (c .before .before .before .before .before .before .before .before .before .before .before .before .before .before .unless .ensures, c .before .before .before .before .before .before .before .before .before .before .before .before .before .before .before .in-step .ensures, c .before .before .before .before .before .before .before .before .before .before .before .before .before .before .before .before .reads .ensures, c .before .before .before .before .before .before .before .before .before .before .before .before .before .before .before .before .before .writes .ensures) at (c .before .before .before .before .before .before .before .before .before .before .before .before .before .refusal-by .ensures) in own-lands (a .core) (a .sound) (a .near) (a .drive) (a .staging .now) (a .tape .now) (a .a) _ _ (c .before .before .before .before .before .before .act .result) _ _ _ (c .done .ensures) (c .before .put .ensures) (c .before .before .before .before .before .before .act .ensures) (c .before .before .before .before .before .before .before .before .before .stage .ensures) answer (told (c .before .before .before .before .before .before .before .before .before .before .before .before .refuses .ensures) (c .before .before .before .before .before .before .before .before .before .before .before .if1 .left))
+returns-2 c = let a = c .before .before .before .before .before .before .before .before .before .before .before .before .before .before .before .before .before .before .before .before .args in let answer = rw (c .before .before .before .before .before .before .before .before .before .before .before .before .before .before .unless .ensures, c .before .before .before .before .before .before .before .before .before .before .before .before .before .before .before .in-step .ensures, c .before .before .before .before .before .before .before .before .before .before .before .before .before .before .before .before .reads .ensures, c .before .before .before .before .before .before .before .before .before .before .before .before .before .before .before .before .before .writes .ensures) at (c .before .before .before .before .before .before .before .before .before .before .before .before .before .refusal-by .ensures) in own-lands (a .core) (a .possible) (a .short) (a .drive) (a .staging .now) (a .tape .now) (a .a) _ answer _ (c .before .before .before .before .before .before .act .result) _ _ _ (c .done .ensures) (c .before .put .ensures) (c .before .before .before .before .before .before .act .ensures) (c .before .before .before .before .before .before .before .before .before .stage .ensures) (told (c .before .before .before .before .before .before .before .before .before .before .before .before .refuses .ensures) (c .before .before .before .before .before .before .before .before .before .before .before .if1 .left))
 
 pub act-on-spec : {M : Type 1} → statement M
 act-on-spec =

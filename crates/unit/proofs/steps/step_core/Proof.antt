@@ -5,9 +5,10 @@ use Rattle.rules.specs.declared.answer.Turn.{Turn}
 use Rattle.rules.specs.Unit.{lent, oneOf, putAt, putLast}
 use Rattle.rules.specs.Refusal.{short}
 use Rattle.rules.specs.Step.{stepped}
-use Rattle.tape.specs.Choice.{pick}
+use Rattle.basis.specs.Choice.{pick}
 use Rattle.unit.proofs.Inside.{given-steps, taken-steps, octet-steps}
-use Rattle.unit.proofs.Settling.{steps-by, none-refused, own-at, own-last}
+use Rattle.unit.proofs.Settling.{steps-by, own-at, own-last}
+use Rattle.answers.proofs.Settling.{none-refused}
 use borrow.Author.Needs.{needs}
 use Rattle.unit.proofs.steps.step_core.Statement.{statement}
 use Rattle.unit.proofs.steps.step_core.Tie as tie
@@ -21,8 +22,8 @@ possible-requires c κs = search needs
 given-place-requires : tie.Need-given-place-requires
 given-place-requires c κs = search needs
 
-writes-at-requires : tie.Need-writes-at-requires
-writes-at-requires c κs = search needs
+look-requires : tie.Need-look-requires
+look-requires c κs = search needs
 
 body-requires : tie.Need-body-requires
 body-requires c κs = search needs
@@ -38,7 +39,7 @@ moved-on-requires c κs = search needs
 
 returns : tie.Need-returns
 unfolding short
-returns c = let a = c .before .before .before .before .before .before .before .before .before .before .before .before .before .before .before .before .args in let l = lent (a .staging .now) (a .tape0 .now) (a .tape1 .now) (a .tape2 .now) (a .tape3 .now) in given-steps (a .core) l (a .event .now) _ _ _ _ _ _ (c .before .before .before .before .before .before .before .given-place .ensures) (c .before .before .before .before .before .before .if1 .taken) (c .before .before .before .before .before .before .before .before .before .possible .ensures) (c .before .before .before .before .before .before .before .before .before .before .short .ensures) (c .before .before .before .before .before .writes-at .ensures) (c .before .before .before .before .if2 .taken) (c .moved-on .ensures) (rw (c .before .before .body .ensures) at (c .before .stage .ensures))
+returns c = let a = c .before .before .before .before .before .before .before .before .before .before .before .before .before .before .before .before .before .args in let l = lent (a .staging .now) (a .tape0 .now) (a .tape1 .now) (a .tape2 .now) (a .tape3 .now) in given-steps (a .core) l (a .event .now) _ _ _ (c .before .before .before .before .before .before .before .before .before .before .possible .ensures) (c .before .before .before .before .before .before .before .before .before .before .before .short .ensures) _ _ _ (c .before .before .before .before .before .before .before .before .given-place .ensures .0) (c .before .before .before .before .before .before .before .if1 .taken) (c .before .before .before .before .before .before .look .ensures) (c .before .before .before .before .if2 .taken) (c .moved-on .ensures) (rw (c .before .before .body .ensures) at (c .before .stage .ensures))
 
 taken-place-requires : tie.Need-taken-place-requires
 taken-place-requires c κs = search needs
@@ -66,7 +67,7 @@ same-length-4 c = search needs
 
 returns-2 : tie.Need-returns-2
 unfolding short
-returns-2 c = let a = c .before .before .before .before .before .before .before .before .before .before .before .before .before .before .before .before .before .before .before .before .args in let l = lent (a .staging .now) (a .tape0 .now) (a .tape1 .now) (a .tape2 .now) (a .tape3 .now) in taken-steps (a .core) l (a .event .now) _ _ _ _ _ (c .before .before .before .before .before .before .before .before .before .taken-place .ensures) (c .before .before .before .before .before .before .before .before .if3 .taken) (c .before .before .before .before .before .before .before .before .before .before .before .before .before .possible .ensures) (c .before .before .before .before .before .before .before .before .before .before .before .before .before .before .short .ensures) (c .before .before .before .next-byte .ensures) (c .before .if4 .taken) (c .moved-on2 .ensures)
+returns-2 c = let a = c .before .before .before .before .before .before .before .before .before .before .before .before .before .before .before .before .before .before .before .before .args in let l = lent (a .staging .now) (a .tape0 .now) (a .tape1 .now) (a .tape2 .now) (a .tape3 .now) in taken-steps (a .core) l (a .event .now) _ _ _ (c .before .before .before .before .before .before .before .before .before .before .before .before .before .possible .ensures) (c .before .before .before .before .before .before .before .before .before .before .before .before .before .before .short .ensures) _ _ (c .before .before .before .before .before .before .before .before .before .taken-place .ensures .0) (c .before .before .before .before .before .before .before .before .if3 .taken) (c .before .before .before .next-byte .ensures) (c .before .if4 .taken) (c .moved-on2 .ensures)
 
 octets-left-requires : tie.Need-octets-left-requires
 octets-left-requires c κs = search needs
@@ -85,7 +86,7 @@ done-requires c κs = search needs
 
 returns-3 : tie.Need-returns-3
 unfolding short
-returns-3 c = let a = c .before .before .before .before .before .before .before .before .before .before .before .before .before .before .before .before .before .before .before .args in let l = lent (a .staging .now) (a .tape0 .now) (a .tape1 .now) (a .tape2 .now) (a .tape3 .now) in octet-steps (a .core) l (a .event .now) _ _ _ _ _ _ (c .before .before .before .before .before .before .octets-left .ensures) (c .before .before .before .before .before .if5 .taken) (c .before .before .before .before .before .before .before .before .before .before .before .before .possible .ensures) (c .before .before .before .before .before .before .before .before .before .before .before .before .before .short .ensures) (c .before .before .before .before .if6 .taken) (c .done .ensures) (c .before .next-octet .ensures) (rw (c .before .before .before .after-octet .ensures) at (c .before .before .moved-to .ensures))
+returns-3 c = let a = c .before .before .before .before .before .before .before .before .before .before .before .before .before .before .before .before .before .before .before .args in let l = lent (a .staging .now) (a .tape0 .now) (a .tape1 .now) (a .tape2 .now) (a .tape3 .now) in octet-steps (a .core) l (a .event .now) _ _ _ (c .before .before .before .before .before .before .before .before .before .before .before .before .possible .ensures) (c .before .before .before .before .before .before .before .before .before .before .before .before .before .short .ensures) _ _ _ (c .before .before .before .before .before .before .octets-left .ensures) (c .before .before .before .before .before .if5 .taken) (c .before .before .before .before .if6 .taken) (c .done .ensures) (c .before .next-octet .ensures) (rw (c .before .before .before .after-octet .ensures) at (c .before .before .moved-to .ensures))
 
 event-of-requires : tie.Need-event-of-requires
 event-of-requires c κs = search needs
@@ -173,7 +174,7 @@ step-core-spec =
     short-requires
     possible-requires
     given-place-requires
-    writes-at-requires
+    look-requires
     body-requires
     stage-requires
     add-t33

@@ -1,9 +1,9 @@
 -- The selected drive by its number; one that is none of 0, 1 and 2 means the last.
-use Rattle.unit.proofs.Settling.{last-one}
+use Rattle.rules.proofs.Places.{last-one}
 use Rattle.unit.specs.Within.{nextOf}
 use Rattle.rules.specs.Unit.{oneOf}
 use Rattle.rules.specs.declared.drive.Drive.{Drive}
-use Rattle.tape.specs.Choice.{pick}
+use Rattle.basis.specs.Choice.{pick}
 use Prim.Native.Nat.{ℕ}
 use mathlib.Core.List.{List}
 use mathlib.Core.Path.{ap₂, sym, _∙_}

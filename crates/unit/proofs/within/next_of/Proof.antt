@@ -1,7 +1,7 @@
 -- A whole block ends inside the tape, so its bytes can be read.
 use Rattle.port.proofs.Whole.{whole}
 use Rattle.unit.specs.Within.{nextOf}
-use Rattle.tape.specs.Choice.{pick}
+use Rattle.basis.specs.Choice.{pick}
 use borrow.Author.Needs.{needs}
 use Rattle.unit.proofs.within.next_of.Statement.{statement}
 use Rattle.unit.proofs.within.next_of.Tie as tie

@@ -21,17 +21,18 @@ enum Spoil {
 fn all() -> &'static [Spoil] {
     static ALL: OnceLock<Vec<Spoil>> = OnceLock::new();
     ALL.get_or_init(|| {
-        let lengths = (0..=700).chain([1000, 1258, 4096, 65_535, 65_536]);
+        let lengths = (0..=700).chain([1000, 2 * codec::SIZE, 4096, 65_535, 65_536]);
         let mut all: Vec<Spoil> =
             lengths.filter(|&length| length != codec::SIZE).map(Spoil::Length).collect();
-        all.extend((0..=255).filter(|&byte| byte != 1).map(|byte| Spoil::Byte(0, byte)));
-        for at in 2..9 {
+        let versions = (0..=255).filter(|&byte| byte != codec::VERSION);
+        all.extend(versions.map(|byte| Spoil::Byte(0, byte)));
+        for at in codec::unused() {
             all.extend((1..=255).map(|byte| Spoil::Byte(at, byte)));
         }
         for at in codec::bools() {
             all.extend((2..=255).map(|byte| Spoil::Byte(at, byte)));
         }
-        all.extend((4..=255).map(|byte| Spoil::Byte(10, byte)));
+        all.extend((4..=255).map(|byte| Spoil::Byte(codec::PHASE, byte)));
         for at in codec::modes() {
             all.extend((3..=255).map(|byte| Spoil::Byte(at, byte)));
         }
@@ -50,9 +51,9 @@ fn put(spoil: Spoil, random: &mut Random, record: &mut Vec<u8>) {
             record.extend(more);
         }
         Spoil::Byte(at, byte) => record.iter_mut().skip(at).take(1).for_each(|old| *old = byte),
-        Spoil::Number(number) if record.len() >= 19 => {
-            record[10] = 0;
-            record[11..19].copy_from_slice(&number.to_le_bytes());
+        Spoil::Number(number) if record.len() >= codec::NUMBER.end => {
+            record[codec::PHASE] = 0;
+            record[codec::NUMBER].copy_from_slice(&number.to_le_bytes());
         }
         Spoil::Number(_) => {}
     }
@@ -92,21 +93,22 @@ pub fn skeleton(random: &mut Random, _: &mut Index, frames: &mut Vec<Frame>) {
     record[0] = codec::VERSION;
     codec::bools().into_iter().for_each(|at| record[at] &= 1);
     codec::modes().into_iter().for_each(|at| record[at] %= 3);
-    record[10] &= 3;
-    let number = if record[10] == 3 { random.among(0..8) } else { random.among(0..514) };
-    lower(random, &mut record[1..2], 4);
-    record[2..9].fill(0);
-    lower(random, &mut record[11..19], number as u64 + 1);
-    if record[10] == 0 {
-        record[11..19].fill(0);
+    codec::unused().into_iter().for_each(|at| record[at] = 0);
+    record[codec::PHASE] &= 3;
+    let places = if record[codec::PHASE] == 3 { 0..8 } else { 0..514 };
+    let number = random.among(places) as u64;
+    lower(random, &mut record[codec::SELECTED..][..1], 4);
+    lower(random, &mut record[codec::NUMBER], number + 1);
+    if record[codec::PHASE] == 0 {
+        record[codec::NUMBER].fill(0);
     }
-    for mode in codec::modes() {
+    for drive in codec::in_drives(&[0]) {
         // Bits that do not fit each other would leave few records that can be.
         if random.chance(750) {
-            record[mode - 10..mode - 8].copy_from_slice(&[1, 0]);
+            record[drive + 16..drive + 18].copy_from_slice(&[1, 0]);
         }
         let bound = random.pick(&[3000, 3000, 3000, LONGEST + 2]);
-        lower(random, &mut record[mode - 8..mode], bound);
+        lower(random, &mut record[drive..drive + 8], bound);
     }
     frames.push(Frame::Step(Step { record, tapes, event }));
 }

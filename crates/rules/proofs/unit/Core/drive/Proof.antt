@@ -1,6 +1,6 @@
-use Rattle.rules.specs.Tests.{tests}
+use Rattle.basis.specs.Tests.{tests}
 use Rattle.rules.specs.Unit.{oneOf}
-use Rattle.tape.specs.Choice.{pick}
+use Rattle.basis.specs.Choice.{pick}
 use Rattle.rules.proofs.unit.Core.drive.Statement.{statement}
 use Rattle.rules.proofs.unit.Core.drive.Tie as tie
 

@@ -1,5 +1,5 @@
 use Rattle.rules.specs.Unit.{putAt, putLast}
-use Rattle.tape.specs.Choice.{pick}
+use Rattle.basis.specs.Choice.{pick}
 use borrow.Author.Tests.{le-leb, ne-eqb}
 use native.Mathlib.Omega.{arith}
 use Rattle.rules.proofs.unit.Core.put.Statement.{statement}

@@ -1,0 +1,3 @@
+mod Tested
+pub mod Settling
+pub mod Outcomes

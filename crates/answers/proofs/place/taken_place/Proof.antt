@@ -1,0 +1,22 @@
+-- A place that is found is within the block.
+use native.Mathlib.Omega.{arith}
+use mathlib.Core.Path.{refl}
+use borrow.Author.Needs.{needs}
+use Rattle.answers.proofs.place.taken_place.Statement.{statement}
+use Rattle.answers.proofs.place.taken_place.Tie as tie
+
+taken-before-requires : tie.Need-taken-before-requires
+taken-before-requires c κs = search needs
+
+within-requires : tie.Need-within-requires
+within-requires c κs = search needs
+
+only-at-requires : tie.Need-only-at-requires
+only-at-requires c κs = search needs
+
+returns : tie.Need-returns
+returns c = (rw (c .only-at .ensures .0, c .before .within .ensures .0, c .before .before .taken-before .ensures) refl, omega (arith, c .only-at .ensures .1, c .before .within .ensures .1))
+
+pub taken-place-spec : {M : Type 1} → statement M
+taken-place-spec =
+    tie.close (tie.spec taken-before-requires within-requires only-at-requires returns)

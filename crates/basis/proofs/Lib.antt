@@ -1,0 +1,4 @@
+pub mod Choosing
+pub mod Placing
+pub mod Digits
+pub mod Outcomes

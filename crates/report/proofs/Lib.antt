@@ -1,0 +1,2 @@
+mod Octet
+pub mod Outcomes
