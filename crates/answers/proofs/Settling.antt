@@ -26,7 +26,8 @@ module _ (c : Core) (possible short : Bool) (e : Event) (b : Answer) (is : b ≡
   unfolding pick
   taken-by so l = rw (refusing is so) refl
 
-pub none-refused : (c : Core) (possible short : Bool) (b : Answer) → b ≡ refusalBy possible short Malformed → Settles c possible short NoEvent (refusedTurn b c)
+pub none-refused : (c : Core) (possible short : Bool) (b : Answer) → b ≡ refusalBy possible short Malformed
+    → Settles c possible short NoEvent (refusedTurn b c)
 unfolding pick
 none-refused c possible short b e = refused-by c possible short NoEvent b e (ap (λ (x : Answer). rowOf x .refuses) e ∙ go possible short)
   where

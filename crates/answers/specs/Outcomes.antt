@@ -10,6 +10,7 @@ use Rattle.rules.specs.declared.phase.Phase.{Phase}
 use Rattle.rules.specs.declared.unit.Core.{Core}
 use Rattle.rules.specs.declared.event.Act.{Act}
 use Rattle.rules.specs.declared.event.Event.{Event}
+use Rattle.rules.specs.declared.event.Event.the-variants.{Reset, Named}
 use Rattle.rules.specs.declared.event.What.{What}
 use Rattle.rules.specs.declared.answer.Answer.{Answer}
 use Rattle.rules.specs.declared.answer.Answer.the-variants.{Taken}
@@ -19,11 +20,20 @@ use Rattle.rules.specs.Event.{eventOf}
 use Rattle.rules.specs.Lines.{linesOf}
 use Rattle.rules.specs.Refusal.{possible, inStep, slotAnswer, refusalBy}
 use Rattle.rules.specs.Step.{takenTurn, refusedTurn}
+use Rattle.rules.specs.Unit.{driveAt}
+use Rattle.answers.specs.declared.looks.Seen.{Seen}
+use Rattle.answers.specs.Looks.{lookOf}
+use Rattle.answers.specs.Moved.{movedTo, movedOn}
+use Rattle.answers.specs.Settled.{Settles}
 use Rattle.answers.specs.Place.{givenPlace, takenPlace, octetsLeft, bodyOf}
 
 -- None of four lengths is above the longest.
 abbrev pub shortBy : ℕ → ℕ → ℕ → ℕ → Bool
 shortBy a b c d = leb a longest && (leb b longest && (leb c longest && leb d longest))
+
+-- Two turns that settle one event.
+abbrev pub OneTurn : Core → Bool → Bool → Event → Type 0
+OneTurn c p s e = (r r′ : Turn) → Settles c p s e r → Settles c p s e r′ → r ≡ r′
 
 pub record OneOutcome : Type 0 where
   pub event-of : (l : List ℕ) (r r′ : Event) → r ≡ eventOf l → r′ ≡ eventOf l → r ≡ r′
@@ -38,6 +48,12 @@ pub record OneOutcome : Type 0 where
   pub slot-answer : (loaded : Bool) (w : What) (r r′ : Answer) → r ≡ slotAnswer loaded w → r′ ≡ slotAnswer loaded w → r ≡ r′
   pub unless : (fits : Bool) (a r r′ : Answer) → r ≡ pick fits Taken a → r′ ≡ pick fits Taken a → r ≡ r′
   pub refusal-by : (p s : Bool) (a r r′ : Answer) → r ≡ refusalBy p s a → r′ ≡ refusalBy p s a → r ≡ r′
+  pub look : (c : Core) (i : ℕ) (r r′ : Seen) → r ≡ lookOf (driveAt c i) → r′ ≡ lookOf (driveAt c i) → r ≡ r′
+  pub slot : (c : Core) (p s : Bool) (i : ℕ) (w : What) → OneTurn c p s (Named i w)
+  pub reset : (c : Core) (p s : Bool) → OneTurn c p s Reset
+  pub moved-to : (c : Core) (ph : Phase) (r r′ : Core) → r ≡ movedTo c ph → r′ ≡ movedTo c ph → r ≡ r′
+  pub moved-on : (c : Core) (ph : Phase) (given : Bool) (b : ℕ) (direction : Bool) (r r′ : Turn)
+      → r ≡ movedOn c ph given b direction → r′ ≡ movedOn c ph given b direction → r ≡ r′
   pub done : (raised given : Bool) (b : ℕ) (c : Core) (r r′ : Turn)
       → r ≡ takenTurn raised given b c → r′ ≡ takenTurn raised given b c → r ≡ r′
   pub refuse : (a : Answer) (c : Core) (r r′ : Turn) → r ≡ refusedTurn a c → r′ ≡ refusedTurn a c → r ≡ r′

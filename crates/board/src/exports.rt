@@ -54,7 +54,8 @@ fn serve(
     event: &[u8],
 ) -> [u8; RESULT]
     requires { do ⌜ (← ⟦buffer.len()⟧) ≡ recordSize ⌝ }
-    ensures { λ r. ⌜ Served (now (buffer .entry)) (tapes (now (tape0 .entry)) (now (tape1 .entry)) (now (tape2 .entry)) (now (tape3 .entry))) (now (event .entry)) r (now (buffer .exit)) (tapes (now (tape0 .exit)) (now (tape1 .exit)) (now (tape2 .exit)) (now (tape3 .exit))) ⌝ }
+    ensures { λ r. ⌜ Served (now (buffer .entry)) (tapes (now (tape0 .entry)) (now (tape1 .entry)) (now (tape2 .entry)) (now (tape3 .entry)))
+        (now (event .entry)) r (now (buffer .exit)) (tapes (now (tape0 .exit)) (now (tape1 .exit)) (now (tape2 .exit)) (now (tape3 .exit))) ⌝ }
 {
     let core = core_of(buffer);
     let mut staging = staging_of(buffer);
@@ -75,7 +76,9 @@ pub extern "C" fn glenoulty_step(
     event: &[u8],
     result: &mut [u8; RESULT],
 )
-    ensures { λ _. ⌜ Serves (now (buffer .entry)) (tapes (now (tape0 .entry)) (now (tape1 .entry)) (now (tape2 .entry)) (now (tape3 .entry))) (now (event .entry)) (now (result .exit)) (now (buffer .exit)) (tapes (now (tape0 .exit)) (now (tape1 .exit)) (now (tape2 .exit)) (now (tape3 .exit))) ⌝ }
+    ensures { λ _. ⌜ Serves (now (buffer .entry)) (tapes (now (tape0 .entry)) (now (tape1 .entry)) (now (tape2 .entry)) (now (tape3 .entry)))
+        (now (event .entry)) (now (result .exit)) (now (buffer .exit))
+        (tapes (now (tape0 .exit)) (now (tape1 .exit)) (now (tape2 .exit)) (now (tape3 .exit))) ⌝ }
 {
     if is_record(buffer) {
         *result = serve(buffer, tape0, tape1, tape2, tape3, event);

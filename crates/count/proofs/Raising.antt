@@ -46,7 +46,9 @@ function k =
       lifetimes = 1;
       outlives = [];
       params = 1;
-      locals = local tyUnit valueLocal ∷ local (tyRef (named 0) mut (pointee (T.the-row .written))) valueLocal ∷ local T′.mir valueLocal ∷ local T′.mir valueLocal ∷ [];
+      locals =
+          local tyUnit valueLocal ∷ local (tyRef (named 0) mut (pointee (T.the-row .written))) valueLocal ∷ local T′.mir valueLocal
+          ∷ local T′.mir valueLocal ∷ [];
       body =
           seq (assign (place 3 []) (rvOpd (copy (place 1 (deref T′.mir ∷ [])))))
           (seq (call k (copy (place 3 []) ∷ []) (place 2 []))
@@ -72,10 +74,12 @@ module _ {M : Type 1} (𝓤 : URA M) (H : Heap 𝓤) (A : Atoms 𝓤) (W : Given
     abbrev Post : Val → SProp 𝓤
     Post = walkOf 𝓤 H A OnLoan stayed (left 𝓤 f) .post (((κ, tt), (q, tt), tt, x, at), tt)
 
-    exits : (r : Drive) → r ≡ f h → ent 𝓤 (sep 𝓤 (A .obs γ (T.the-row .coded .code r)) (sep 𝓤 (A .bor κ (Body (mem T.the-row) b o γ)) (A .lft κ q))) (Post vunit)
+    exits : (r : Drive) → r ≡ f h
+        → ent 𝓤 (sep 𝓤 (A .obs γ (T.the-row .coded .code r)) (sep 𝓤 (A .bor κ (Body (mem T.the-row) b o γ)) (A .lft κ q))) (Post vunit)
     exits r e =
         qed W (‵ (fobs γ (T.the-row .coded .code r)) ∷ ‵ (fbor κ (Body (mem T.the-row) b o γ)) ∷ ‵ (flft κ q) ∷ []) ∵
-        suffices ! _ (ends-at 𝓤 H A OnLoan stayed (left 𝓤 f) W (((κ, tt), (q, tt), tt, x, at), tt) vunit tt (r, tt) (tt, tt)) $ says ! e $ nothing ! $ move ! (3 ∷ 0 ∷ []) $ join ! $
+        suffices ! _ (ends-at 𝓤 H A OnLoan stayed (left 𝓤 f) W (((κ, tt), (q, tt), tt, x, at), tt) vunit tt (r, tt) (tt, tt)) $ says ! e $ nothing
+        ! $ move ! (3 ∷ 0 ∷ []) $ join ! $
         frame ! $ feqI ! (List Val) (vptr b o ∷ []) (vptr b o ∷ []) refl $ fjoin3 ! $ nothing ! $ move ! (1 ∷ 0 ∷ []) $ fjoin ! $
         feqI ! (List Val) (vunit ∷ []) (vunit ∷ []) refl $ move ! (1 ∷ 0 ∷ []) $ done !
 
@@ -88,21 +92,27 @@ module _ {M : Type 1} (𝓤 : URA M) (H : Heap 𝓤) (A : Atoms 𝓤) (W : Given
     module _ (C : Calls 𝓤 H) (Λ : Loops 𝓤 H) (fm : FmC 𝓤 H (W .laws) C) (k : Name) (known : Triple 𝓤 (C k) (Returns 𝓤 f H A)) where
       walk : ent 𝓤 (onEntry 𝓤 H A (OnLoan .signature) (κ, tt) (q, tt) x at) (WpFn 𝓤 H C Λ (function k) (vptr b o ∷ []) Post)
       walk =
-          qed W ((‵ (flft κ q) ⊛ ‵ ftrue) ∷ ‵ (owns (MutRef (named 0) κ T.the-row ∷ []) x at) ∷ []) ∵ split ! $ move ! (2 ∷ []) $ fsplit ! $ fsplit3 ! $ drop ! $ move ! (0 ∷ 1 ∷ 3 ∷ []) $
+          qed W ((‵ (flft κ q) ⊛ ‵ ftrue) ∷ ‵ (owns (MutRef (named 0) κ T.the-row ∷ []) x at) ∷ []) ∵ split ! $ move ! (2 ∷ []) $ fsplit ! $
+          fsplit3 ! $ drop ! $ move ! (0 ∷ 1 ∷ 3 ∷ []) $
           enter ! C Λ (function k) (vptr b o ∷ []) _ $
           alloc1 ! (λ l₀. alloc1 ! (λ l₁. alloc1 ! (λ l₂. alloc1 ! (λ l₃. alloc0 ! $ params1 ! $ pass1 ! (init ! 4 refl (tt, tt)) $ pass0 ! $
-          move ! (8 ∷ 9 ∷ 10 ∷ []) $ opens ! tt T.the-row {h = h} b o (λ vs. spelt ! T.the-row Stands (shows 𝓤 H A T.the-row) vals (tells) fullShare h vs b o $
+          move ! (8 ∷ 9 ∷ 10 ∷ []) $ opens ! tt T.the-row {h = h} b o
+          (λ vs. spelt ! T.the-row Stands (shows 𝓤 H A T.the-row) vals (tells) fullShare h vs b o $
           move ! (1 ∷ []) $ peeks ! T.the-row Stands (shows 𝓤 H A T.the-row) h (vals h) (λ was. move ! (1 ∷ 0 ∷ []) $
           -- [the struct's cell; what a Drive owns; the open borrow; obs; auth; room for _3; …; room for _2; …; _1; …; room for _0; …]
-          assigns ! (of-opd ! (load ! (from ! (hop ! (look ! 9 refl) (stop !))) (look-raw ! 0 refl))) (from ! (stop !)) (init ! 5 refl (fits 𝓤 H A W h _ was .0)) $
+          assigns ! (of-opd ! (load ! (from ! (hop ! (look ! 9 refl) (stop !))) (look-raw ! 0 refl))) (from ! (stop !))
+          (init ! 5 refl (fits 𝓤 H A W h _ was .0)) $
           move ! (1 ∷ []) $ use1 W (raw (Returns 𝓤 f H A .pre to-move)) goes-move $
           calls-at ! fm (Returns 𝓤 f H A) known to-move (and-then ! (load ! (from ! (stop !)) (look ! 5 refl)) (no-more !)) (λ v.
-          use1 W (later (some (λ (r : Drive). (‵ ftrue ⊛ ‵ (T.the-row .own r (v ∷ []))) ⊛ raw (ensured 𝓤 H A ByValue (returned 𝓤 f) tt (h, tt) tt r)))) (id⊢ 𝓤 _) $ await ! tt $ pick ! (λ r.
+          use1 W (later
+          (some (λ (r : Drive). (‵ ftrue ⊛ ‵ (T.the-row .own r (v ∷ []))) ⊛ raw (ensured 𝓤 H A ByValue (returned 𝓤 f) tt (h, tt) tt r))))
+          (id⊢ 𝓤 _) $ await ! tt $ pick ! (λ r.
           split ! $ move ! (1 ∷ []) $ use1 W (raw (fact 𝓤 (r ≡ f h))) (says-moved h r) $ heard ! (r ≡ f h) (λ e. split ! $ drop ! $
           peeks ! T.the-row Stands (shows 𝓤 H A T.the-row) r (v ∷ []) (λ is.
           -- [what r owns; the cell; the open borrow; obs; auth; _3; …; room for _2; …; _1; …; room for _0; …]
           land ! (from ! (stop !)) (init ! 7 refl (fits 𝓤 H A W r _ is .0)) $
-          assigns ! (of-opd ! (load ! (from ! (stop !)) (look ! 7 refl))) (from ! (hop ! (look ! 9 refl) (stop !))) (store-raw ! 1 refl (fits 𝓤 H A W r _ is .0)) $
+          assigns ! (of-opd ! (load ! (from ! (stop !)) (look ! 7 refl))) (from ! (hop ! (look ! 9 refl) (stop !)))
+          (store-raw ! 1 refl (fits 𝓤 H A W r _ is .0)) $
           assigns ! (of-opd ! (unit-lit !)) (from ! (stop !)) (init ! 11 refl (tt, tt)) $
           move ! (1 ∷ 0 ∷ []) $ closes ! tt T.the-row r (v ∷ []) b o $
           returns ! (look ! 9 refl) $ forget ! 3 refl $ forget ! 5 refl $ forget ! 7 refl $ forget ! 9 refl $
@@ -111,13 +121,15 @@ module _ {M : Type 1} (𝓤 : URA M) (H : Heap 𝓤) (A : Atoms 𝓤) (W : Given
 
   walks : (C : Calls 𝓤 H) (Λ : Loops 𝓤 H) → FmC 𝓤 H (W .laws) C → (k : Name) → Triple 𝓤 (C k) (Returns 𝓤 f H A)
       → Walks 𝓤 H A OnLoan stayed (WpFn 𝓤 H C Λ (function k)) (left 𝓤 f)
-  walks C Λ fm k known = walked 𝓤 H A OnLoan stayed (left 𝓤 f) (WpFn 𝓤 H C Λ (function k)) (λ κs. (ptr-vals, tt)) (λ κs. (mut-tells (named 0) (κs .0) T.the-row, tt))
+  walks C Λ fm k known =
+      walked 𝓤 H A OnLoan stayed (left 𝓤 f) (WpFn 𝓤 H C Λ (function k)) (λ κs. (ptr-vals, tt)) (λ κs. (mut-tells (named 0) (κs .0) T.the-row, tt))
       (λ κs qs bounds a _ _. via 𝓤 _ (fst∗ 𝓤 _ (emp 𝓤)) (walk (κs .0) (qs .0) (a .0 .ptr .0) (a .0 .ptr .1) (a .0 .name) (a .0 .now) C Λ fm k known))
 
   goes : AllGo 𝓤 H A W 1 (OnLoan .signature .params) (OnLoan .kept) stayed
   goes = (goes-ref 𝓤 H A W 1 0 tt (plain (λ _. T.the-row)), tt)
 
-  meets : (𝓣 : Tables 𝓤 H) (k : Name) → Triple 𝓤 (𝓣 .C k) (Returns 𝓤 f H A) → Meets 𝓤 H A (OnLoan .signature) (WpFn 𝓤 H (𝓣 .C) (𝓣 .Λ) (function k)) (closing 𝓤 H A OnLoan (left 𝓤 f))
+  meets : (𝓣 : Tables 𝓤 H) (k : Name) → Triple 𝓤 (𝓣 .C k) (Returns 𝓤 f H A)
+      → Meets 𝓤 H A (OnLoan .signature) (WpFn 𝓤 H (𝓣 .C) (𝓣 .Λ) (function k)) (closing 𝓤 H A OnLoan (left 𝓤 f))
   meets 𝓣 k known =
       walk-meets 𝓤 H A OnLoan stayed W goes (left 𝓤 f) (WpFn 𝓤 H (𝓣 .C) (𝓣 .Λ) (function k)) (WpFn-mono 𝓤 H (W .laws) 𝓣 (function k))
       (walks (𝓣 .C) (𝓣 .Λ) (fmOf 𝓤 H (W .laws) 𝓣) k known)

@@ -63,7 +63,8 @@ pub put-on : {r r′ w : List ℕ} (b : List ℕ) (at n : ℕ) → Wrote r at w 
     → r′ ≡ placed r at b → Wrote r′ (at + n) (w ++ b)
 put-on {r} {r′} {w} b at n before size fits is =
     let room : at + length b ≤ length r = omega (arith, size, fits, before .size) in
-    let next : take (at + length b) r′ ≡ w ++ b = ap (take (at + length b)) is ∙ take-placed r at b room ∙ ap (λ (x : List ℕ). x ++ b) (before .front) in
+    let next : take (at + length b) r′ ≡ w ++ b = ap (take (at + length b)) is ∙ take-placed r at b room
+    ∙ ap (λ (x : List ℕ). x ++ b) (before .front) in
     let long : length r′ ≡ length r = ap length is ∙ placed-length r at b room in
     record { front = ap (λ (k : ℕ). take (at + k) r′) (sym size) ∙ next; size = long ∙ before .size }
 

@@ -1,7 +1,7 @@
 // Loops over the step, for a program in C that takes their time.
 ghost use mathlib.Core.Path.{_≡_};
 ghost use Rattle.rules.specs.Unit.{lent};
-ghost use Rattle.rules.specs.Run.{world, run};
+ghost use Rattle.rules.specs.Ran.{RunsTo};
 ghost use Rattle.pace.specs.Pairs.{pairsOf, Paced};
 use rules::Core;
 use rules::Unit;
@@ -18,7 +18,10 @@ fn run_core(
     tape3: &mut [u8],
     pairs: &[u8],
 ) -> Core
-    ensures { λ r. ⌜ world r (lent (now (staging .exit)) (now (tape0 .exit)) (now (tape1 .exit)) (now (tape2 .exit)) (now (tape3 .exit))) ≡ run (world core (lent (now (staging .entry)) (now (tape0 .entry)) (now (tape1 .entry)) (now (tape2 .entry)) (now (tape3 .entry)))) (pairsOf (now (pairs .entry))) ⌝ }
+    ensures { λ r. ⌜ RunsTo core
+        (lent (now (staging .entry)) (now (tape0 .entry)) (now (tape1 .entry)) (now (tape2 .entry)) (now (tape3 .entry)))
+        (pairsOf (now (pairs .entry))) r
+        (lent (now (staging .exit)) (now (tape0 .exit)) (now (tape1 .exit)) (now (tape2 .exit)) (now (tape3 .exit))) ⌝ }
 {
     let mut after = core;
     let mut i = 0;
@@ -40,7 +43,10 @@ fn run_unit(
     tape3: &mut [u8],
     pairs: &[u8],
 ) -> Unit
-    ensures { λ r. ⌜ world (r .core) (lent (r .staging) (now (tape0 .exit)) (now (tape1 .exit)) (now (tape2 .exit)) (now (tape3 .exit))) ≡ run (world (whole .core) (lent (whole .staging) (now (tape0 .entry)) (now (tape1 .entry)) (now (tape2 .entry)) (now (tape3 .entry)))) (pairsOf (now (pairs .entry))) ⌝ }
+    ensures { λ r. ⌜ RunsTo (whole .core)
+        (lent (whole .staging) (now (tape0 .entry)) (now (tape1 .entry)) (now (tape2 .entry)) (now (tape3 .entry)))
+        (pairsOf (now (pairs .entry))) (r .core)
+        (lent (r .staging) (now (tape0 .exit)) (now (tape1 .exit)) (now (tape2 .exit)) (now (tape3 .exit))) ⌝ }
 {
     let mut after = whole;
     let mut i = 0;
@@ -62,7 +68,8 @@ pub extern "C" fn pace_core(
     tape3: &mut [u8],
     pairs: &[u8],
 ) -> u8
-    ensures { λ r. ⌜ Paced (now (tape0 .entry)) (now (tape1 .entry)) (now (tape2 .entry)) (now (tape3 .entry)) (now (pairs .entry)) r (now (tape0 .exit)) (now (tape1 .exit)) (now (tape2 .exit)) (now (tape3 .exit)) ⌝ }
+    ensures { λ r. ⌜ Paced (now (tape0 .entry)) (now (tape1 .entry)) (now (tape2 .entry)) (now (tape3 .entry)) (now (pairs .entry)) r
+        (now (tape0 .exit)) (now (tape1 .exit)) (now (tape2 .exit)) (now (tape3 .exit)) ⌝ }
 {
     let mut staging = [0; BODY];
     let after = run_core(
@@ -86,7 +93,8 @@ pub extern "C" fn pace_unit(
     tape3: &mut [u8],
     pairs: &[u8],
 ) -> u8
-    ensures { λ r. ⌜ Paced (now (tape0 .entry)) (now (tape1 .entry)) (now (tape2 .entry)) (now (tape3 .entry)) (now (pairs .entry)) r (now (tape0 .exit)) (now (tape1 .exit)) (now (tape2 .exit)) (now (tape3 .exit)) ⌝ }
+    ensures { λ r. ⌜ Paced (now (tape0 .entry)) (now (tape1 .entry)) (now (tape2 .entry)) (now (tape3 .entry)) (now (pairs .entry)) r
+        (now (tape0 .exit)) (now (tape1 .exit)) (now (tape2 .exit)) (now (tape3 .exit)) ⌝ }
 {
     let after = run_unit(Unit::fresh(), tape0, tape1, tape2, tape3, pairs);
     after.core.port.selected

@@ -19,7 +19,8 @@ module _ {A : Type 0} (online exception loaded : Bool) (idle left level : A) whe
       go true false h = cc
       go false e h = cc
 
-  pub with-cartridge : (online && exception) ≡ false → (online && loaded) ≡ true → pick online (pick exception idle (pick loaded left level)) level ≡ left
+  pub with-cartridge : (online && exception) ≡ false → (online && loaded) ≡ true → pick online (pick exception idle (pick loaded left level))
+      level ≡ left
   unfolding pick
   with-cartridge = go online exception loaded
     where
@@ -29,7 +30,8 @@ module _ {A : Type 0} (online exception loaded : Bool) (idle left level : A) whe
       go true false false h k = cc
       go false e l h k = cc
 
-  pub with-neither : (online && exception) ≡ false → (online && loaded) ≡ false → pick online (pick exception idle (pick loaded left level)) level ≡ level
+  pub with-neither : (online && exception) ≡ false → (online && loaded) ≡ false → pick online (pick exception idle (pick loaded left level))
+      level ≡ level
   unfolding pick
   with-neither = go online exception loaded
     where

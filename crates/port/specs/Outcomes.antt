@@ -28,7 +28,8 @@ pub record OneOutcome : Type 0 where
   pub stage : (ph : Phase) (a : Act) (g g′ g″ : List ℕ) → g′ ≡ staged ph a g → g″ ≡ staged ph a g → g′ ≡ g″
   pub command : (p : Port) (d : Drive) (t : List ℕ) (c : ℕ) → OneAct (commanded (seat p d t) (orderOf c) (faultOf (seat p d t) (orderOf c)))
   pub give : (p : Port) (g : List ℕ) (d : Drive) (t : List ℕ) → OneAct (byteGiven g (seat p d t) (givenBefore (p .phase)))
-  pub take : (p : Port) (d : Drive) (t : List ℕ) (r r′ : Moved) → acted r t ≡ byteTaken (seat p d t) (p .phase) → acted r′ t ≡ byteTaken (seat p d t) (p .phase) → r ≡ r′
+  pub take : (p : Port) (d : Drive) (t : List ℕ) (r r′ : Moved) → acted r t ≡ byteTaken (seat p d t) (p .phase)
+      → acted r′ t ≡ byteTaken (seat p d t) (p .phase) → r ≡ r′
   pub raise-online : (p : Port) (d : Drive) (r r′ : Moved)
       → ((t : List ℕ) → acted r t ≡ levelled true (seat p d t)) → ((t : List ℕ) → acted r′ t ≡ levelled true (seat p d t)) → r ≡ r′
   pub drop-online : (p : Port) (d : Drive) (t : List ℕ) → OneAct (dropped (seat p d t))

@@ -39,7 +39,8 @@ fn erase(port: Port, drive: Drive, tape: &mut [u8]) -> Moved
 
 // A mark recorded, mode Idle; without room for it EOM, as test 7 has it.
 fn write_mark(port: Port, drive: Drive, tape: &mut [u8]) -> Moved
-    ensures { λ r. ⌜ acted r (now (tape .exit)) ≡ commanded (seat port drive (now (tape .entry))) WriteMark (pick (leb (drive .head + markRoom) (length (now (tape .entry)))) Fine Full) ⌝ }
+    ensures { λ r. ⌜ acted r (now (tape .exit))
+        ≡ commanded (seat port drive (now (tape .entry))) WriteMark (pick (leb (drive .head + markRoom) (length (now (tape .entry)))) Fine Full) ⌝ }
 {
     let made = record_mark(tape, drive.head);
     match made {
@@ -93,7 +94,8 @@ fn carry_out(port: Port, drive: Drive, tape: &mut [u8], order: Order) -> Moved
 
 // Tests 1 to 4 latch ILL, 5 CNI, 6 raises EXCEPTION alone, 7 latches EOM and makes the mode Idle.
 pub fn command(port: Port, drive: Drive, tape: &mut [u8], code: u8) -> Moved
-    ensures { λ r. ⌜ acted r (now (tape .exit)) ≡ commanded (seat port drive (now (tape .entry))) (orderOf code) (faultOf (seat port drive (now (tape .entry))) (orderOf code)) ⌝ }
+    ensures { λ r. ⌜ acted r (now (tape .exit))
+        ≡ commanded (seat port drive (now (tape .entry))) (orderOf code) (faultOf (seat port drive (now (tape .entry))) (orderOf code)) ⌝ }
 {
     let order = order_of(code);
     let fault = fault_of(port.online, drive, tape.len(), needs_of(order));

@@ -67,7 +67,8 @@ fn store(port: Port, staging: &[u8; BODY], drive: Drive, tape: &mut [u8]) -> Mov
 
 // The byte is staged already. No tape byte changes before the 512th.
 pub fn give(port: Port, staging: &[u8; BODY], drive: Drive, tape: &mut [u8]) -> Moved
-    ensures { λ r. ⌜ acted r (now (tape .exit)) ≡ byteGiven (now (staging .entry)) (seat port drive (now (tape .entry))) (givenBefore (port .phase)) ⌝ }
+    ensures { λ r. ⌜ acted r (now (tape .exit))
+        ≡ byteGiven (now (staging .entry)) (seat port drive (now (tape .entry))) (givenBefore (port .phase)) ⌝ }
 {
     let phase = port.phase;
     let n = phase.given_before();

@@ -64,7 +64,8 @@ fn take_first(port: Port, drive: Drive, tape: &[u8]) -> Moved
 
 // In the middle of a block the record is looked at anew: where it is no whole block any more, UDE.
 fn take_next(port: Port, drive: Drive, tape: &[u8], n: usize) -> Moved
-    ensures { λ r. ⌜ acted r (now (tape .entry)) ≡ nextTaken (seat port drive (now (tape .entry))) n (isBlock (foundAt (now (tape .entry)) (drive .head))) ⌝ }
+    ensures { λ r. ⌜ acted r (now (tape .entry))
+        ≡ nextTaken (seat port drive (now (tape .entry))) n (isBlock (foundAt (now (tape .entry)) (drive .head))) ⌝ }
 {
     if is_block(found_at(tape, drive.head)) {
         hand(port, drive, tape, n)

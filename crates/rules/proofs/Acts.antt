@@ -57,7 +57,8 @@ pub data Does (g : List ℕ) (s : Seat) : Act → Acted → Type 0 where
   records-mark : (c : ℕ) → Passes s WriteMark
       → Does g s (Command c) (leaves false (resting s) (inMode Idle (made (s .drive .head + 1) (s .drive))) (withMark (s .drive) (s .tape)))
   sets-reading : (c : ℕ) → Passes s Read
-      → Does g s (Command c) (leaves (checked (s .tape) (inMode Reading (s .drive)) .raised) (resting s) (checked (s .tape) (inMode Reading (s .drive)) .drive) (s .tape))
+      → Does g s (Command c) (leaves (checked (s .tape) (inMode Reading (s .drive)) .raised) (resting s)
+      (checked (s .tape) (inMode Reading (s .drive)) .drive) (s .tape))
   searches : (c : ℕ) → Does g s (Command c) (leaves true (resting s) (standing (passed (s .tape) (s .drive .head)) (s .drive)) (s .tape))
   reports : Does g s (Command 192) (leaves false (showing (octetsOf (s .drive)) (s .port)) (cleared (s .drive)) (s .tape))
   -- tests 1 to 7
@@ -65,7 +66,8 @@ pub data Does (g : List ℕ) (s : Seat) : Act → Acted → Type 0 where
   meets-plug : (c : ℕ) → Does g s (Command c) (leaves true (resting s) (raised (s .drive)) (s .tape))
   finds-no-room : (c : ℕ) → Does g s (Command c) (leaves true (resting s) (stopping Eom (s .drive)) (s .tape))
   -- a byte given
-  stages : (b n : ℕ) → n + 1 ≤ 511 → s .drive .mode ≡ Writing → Does g s (Give b) (leaves false (atPhase (Taking (n + 1)) (s .port)) (s .drive) (s .tape))
+  stages : (b n : ℕ) → n + 1 ≤ 511 → s .drive .mode ≡ Writing
+      → Does g s (Give b) (leaves false (atPhase (Taking (n + 1)) (s .port)) (s .drive) (s .tape))
   records-block : (b : ℕ) → s .drive .mode ≡ Writing → s .drive .head + 1541 ≤ length (s .tape)
       → Does g s (Give b) (leaves false (resting s) (made (s .drive .head + 513) (s .drive)) (withBlock g (s .drive) (s .tape)))
   records-last : (b : ℕ) → s .drive .mode ≡ Writing → s .drive .head + 1541 ≤ length (s .tape)
@@ -78,7 +80,8 @@ pub data Does (g : List ℕ) (s : Seat) : Act → Acted → Type 0 where
       → Does g s Take (hands false (getD (s .tape) (s .drive .head + 1 + n) 0) (atPhase (Giving (n + 1)) (s .port)) (s .drive) (s .tape))
   hands-last : s .port .phase ≡ Giving 511 → s .drive .mode ≡ Reading → foundAt (s .tape) (s .drive .head) ≡ Block
       → Does g s Take
-      (hands (checked (s .tape) (passedTo (s .drive .head + 513) (s .drive)) .raised) (getD (s .tape) (s .drive .head + 512) 0) (resting s) (checked (s .tape) (passedTo (s .drive .head + 513) (s .drive)) .drive) (s .tape))
+      (hands (checked (s .tape) (passedTo (s .drive .head + 513) (s .drive)) .raised) (getD (s .tape) (s .drive .head + 512) 0) (resting s)
+      (checked (s .tape) (passedTo (s .drive .head + 513) (s .drive)) .drive) (s .tape))
   meets-edge : checked (s .tape) (s .drive) .raised ≡ true → Does g s Take (leaves true (resting s) (checked (s .tape) (s .drive) .drive) (s .tape))
   finds-no-block : Does g s Take (leaves true (resting s) (stopping Ude (s .drive)) (s .tape))
   -- ONLINE
@@ -91,16 +94,20 @@ pub data Does (g : List ℕ) (s : Seat) : Act → Acted → Type 0 where
   has-no-room : Does g s Offline (leaves true (atLevel false (s .port)) (stopping Eom (s .drive)) (s .tape))
 
 -- by cases on a test
-by-test : {g : List ℕ} {s : Seat} {a : Act} (b : Bool) {x y : Acted} → (b ≡ true → Does g s a x) → (b ≡ false → Does g s a y) → Does g s a (pick b x y)
+by-test : {g : List ℕ} {s : Seat} {a : Act} (b : Bool) {x y : Acted} → (b ≡ true → Does g s a x) → (b ≡ false → Does g s a y)
+    → Does g s a (pick b x y)
 unfolding pick
 by-test true f h = f refl
 by-test false f h = h refl
 
 passes : (s : Seat) (o : Order) → faultOf s o ≡ Fine → Passes s o
 unfolding faultOf faultBy pick
-passes s o = go (illegal (s .port .online) (s .drive) (needsOf o)) (test5 (s .drive) (needsOf o)) (test6 (s .drive) (needsOf o)) (hasRoom (needsOf o .room) (s .drive .head) (length (s .tape))) refl refl refl
+passes s o =
+    go (illegal (s .port .online) (s .drive) (needsOf o)) (test5 (s .drive) (needsOf o)) (test6 (s .drive) (needsOf o))
+    (hasRoom (needsOf o .room) (s .drive .head) (length (s .tape))) refl refl refl
   where
-    go : (i e p r : Bool) → test5 (s .drive) (needsOf o) ≡ e → test6 (s .drive) (needsOf o) ≡ p → hasRoom (needsOf o .room) (s .drive .head) (length (s .tape)) ≡ r
+    go : (i e p r : Bool) → test5 (s .drive) (needsOf o) ≡ e → test6 (s .drive) (needsOf o) ≡ p
+        → hasRoom (needsOf o .room) (s .drive .head) (length (s .tape)) ≡ r
         → firstFault i e p r ≡ Fine → Passes s o
     go true e p r qe qp qr h = record { cartridge = cc; plug = cc; room = cc }
     go false true p r qe qp qr h = record { cartridge = cc; plug = cc; room = cc }
@@ -161,13 +168,15 @@ module _ (g : List ℕ) (s : Seat) (ok : SoundSeat s) where
       (λ r. by-test _ (λ _. records-block b w (leb-true _ _ r)) (λ _. records-last b w (leb-true _ _ r)))
       (λ _. drops-block b))
 
-  handed-does : (n : ℕ) → n ≤ 511 → (n ≡ 511 → s .port .phase ≡ Giving 511) → s .drive .mode ≡ Reading → foundAt (s .tape) (s .drive .head) ≡ Block → Does g s Take (handed s n)
+  handed-does : (n : ℕ) → n ≤ 511 → (n ≡ 511 → s .port .phase ≡ Giving 511) → s .drive .mode ≡ Reading
+      → foundAt (s .tape) (s .drive .head) ≡ Block → Does g s Take (handed s n)
   unfolding handed
   handed-does n l q w e =
       by-test (ltb n 511) (λ h. hands-byte n (omega (arith, ltb-true n 511 h)) w e)
       (λ h. hands-last (q (omega (arith, ltb-false n 511 h))) w e)
 
-  took-does : (ph : Phase) → s .port .phase ≡ ph → possiblePhase ph (s .drive .mode) ≡ true → gives ph (reads (s .drive)) ≡ true → Does g s Take (byteTaken s ph)
+  took-does : (ph : Phase) → s .port .phase ≡ ph → possiblePhase ph (s .drive .mode) ≡ true → gives ph (reads (s .drive)) ≡ true
+      → Does g s Take (byteTaken s ph)
   unfolding octetTaken possiblePhase
   took-does Rest e k h =
       let w = reading-is (s .drive .mode) (both (isReading (s .drive .mode)) (not (s .drive .exception)) h .0) in

@@ -92,7 +92,8 @@ module _ (s : Seat) (g g′ : List ℕ) where
 
   octet-agree : (k : ℕ) → s .port .octets ≡ octetsIn (s .port .phase) (s .port .octets) → (b : Bool)
       → Agree g g′ (hands false (getD (s .port .octets) (octetPlace k) 0) (atPhase (pick b Rest (Status (k - 1))) (s .port)) (s .drive) (s .tape))
-      (hands false (getD (octetsIn (s .port .phase) (s .port .octets)) (octetPlace k) 0) (atPhase (pick b Rest (Status (k - 1))) (herePort (s .port))) (s .drive) (s .tape))
+      (hands false (getD (octetsIn (s .port .phase) (s .port .octets)) (octetPlace k) 0)
+      (atPhase (pick b Rest (Status (k - 1))) (herePort (s .port))) (s .drive) (s .tape))
   unfolding pick
   octet-agree k e true = same refl refl (ap (λ (o : List ℕ). getD o (octetPlace k) 0) e) refl refl refl refl
   octet-agree k e false =
@@ -108,14 +109,16 @@ module _ (s : Seat) (g g′ : List ℕ) where
 
   leaving-agree : (m : Mode) → Agree g g′ (leaving s m) (leaving (seen s) m)
   leaving-agree Idle = same refl refl refl refl refl refl refl
-  leaving-agree Writing = agree-pick (leb (s .drive .head + 1) (length (s .tape))) (same refl refl refl refl refl refl refl) (same refl refl refl refl refl refl refl)
+  leaving-agree Writing =
+      agree-pick (leb (s .drive .head + 1) (length (s .tape))) (same refl refl refl refl refl refl refl) (same refl refl refl refl refl refl refl)
   leaving-agree Reading = same refl refl refl refl refl refl refl
 
   dropped-agree : Agree g g′ (dropped s) (dropped (seen s))
   unfolding dropped
   dropped-agree =
       agree-pick (s .port .online)
-      (agree-pick (s .drive .exception) (same refl refl refl refl refl refl refl) (agree-pick (s .drive .loaded) (leaving-agree (s .drive .mode)) (same refl refl refl refl refl refl refl)))
+      (agree-pick (s .drive .exception) (same refl refl refl refl refl refl refl)
+      (agree-pick (s .drive .loaded) (leaving-agree (s .drive .mode)) (same refl refl refl refl refl refl refl)))
       (same refl refl refl refl refl refl refl)
 
   stored-agree : g ≡ g′ → Agree g g′ (stored g (resting s) (s .drive) (s .tape)) (stored g′ (resting (seen s)) (s .drive) (s .tape))
@@ -132,7 +135,8 @@ module _ (s : Seat) (g g′ : List ℕ) where
 put-agree : (g g′ : List ℕ) (n b : ℕ) → n < length g → n < length g′ → take n g ≡ take n g′ → take (suc n) (set g n b) ≡ take (suc n) (set g′ n b)
 put-agree g g′ n b h h′ e = rw (take-suc-set g n b h, take-suc-set g′ n b h′, e)
 
-put-shown : (g g′ : List ℕ) (n b : ℕ) → n < length g → n < length g′ → take n g ≡ take n g′ → shownTo (n + 1) (set g n b) ≡ shownTo (n + 1) (set g′ n b)
+put-shown : (g g′ : List ℕ) (n b : ℕ) → n < length g → n < length g′ → take n g ≡ take n g′
+    → shownTo (n + 1) (set g n b) ≡ shownTo (n + 1) (set g′ n b)
 unfolding shownTo
 put-shown g g′ n b h h′ e = rw add-one (ap (λ (x : List ℕ). x ++ replicate (512 - suc n) 0) (put-agree g g′ n b h h′ e))
 
@@ -157,20 +161,24 @@ module _ (s : Seat) (ok : SoundSeat s) (g : List ℕ) (whole : length g ≡ 512)
   gave-agree n b h e w = go (ltb n 511) refl
     where
       go : (c : Bool) → ltb n 511 ≡ c → Agree (set g (pick c n 511) b) (set cut (pick c n 511) b)
-          (pick c (leaves false (atPhase (Taking (n + 1)) (s .port)) (s .drive) (s .tape)) (stored (set g (pick c n 511) b) (resting s) (s .drive) (s .tape)))
-          (pick c (leaves false (atPhase (Taking (n + 1)) (herePort (s .port))) (s .drive) (s .tape)) (stored (set cut (pick c n 511) b) (resting (seen s)) (s .drive) (s .tape)))
+          (pick c (leaves false (atPhase (Taking (n + 1)) (s .port)) (s .drive) (s .tape))
+          (stored (set g (pick c n 511) b) (resting s) (s .drive) (s .tape)))
+          (pick c (leaves false (atPhase (Taking (n + 1)) (herePort (s .port))) (s .drive) (s .tape))
+          (stored (set cut (pick c n 511) b) (resting (seen s)) (s .drive) (s .tape)))
       go true q = same refl refl refl refl refl refl (put-shown g cut n b (omega (arith, whole, h)) (omega (arith, w, h)) e)
       go false q =
           let k : n ≡ 511 = omega (arith, ltb-false n 511 q) in
           stored-agree s (set g 511 b) (set cut 511 b) (put-whole g cut 511 b whole w (subst (λ (i : ℕ). take i g ≡ take i cut) k e))
 
   pub act-agree : (a : Act) → inStepAt (s .port .phase) (s .drive) a ≡ true
-      → Agree (staged (s .port .phase) a g) (staged (s .port .phase) a cut) (act (staged (s .port .phase) a g) s a) (act (staged (s .port .phase) a cut) (seen s) a)
+      → Agree (staged (s .port .phase) a g) (staged (s .port .phase) a cut) (act (staged (s .port .phase) a g) s a)
+      (act (staged (s .port .phase) a cut) (seen s) a)
   unfolding faultOf stagedByte
   act-agree (Command c) h = commanded-agree s g cut (orderOf c) (faultOf s (orderOf c))
   act-agree (Give b) h =
       let below = place-below (s .port .phase) (s .drive .mode) (ok .phase) in
-      gave-agree (givenBefore (s .port .phase)) b below (given-seen (s .port .phase) g below whole) (staging-length (s .port .phase) (s .drive .mode) g (ok .phase) whole)
+      gave-agree (givenBefore (s .port .phase)) b below (given-seen (s .port .phase) g below whole)
+      (staging-length (s .port .phase) (s .drive .mode) g (ok .phase) whole)
   act-agree Take h = took-agree s g cut (s .port .phase) refl h
   act-agree Online h = same refl refl refl refl refl refl refl
   act-agree Offline h = dropped-agree s g cut

@@ -42,7 +42,9 @@ module _ (d : ℕ) (d3 : d ≤ 3) (w : World) (k : Sound (w .core) (w .lent)) (e
   follow r h =
       subst (λ (x : Stepped). Pair x (stepOf (look d w .core) (look d w .lent) e)) (sym (step-is (w .core) (w .lent) e k))
       (subst (λ (y : Stepped). Pair s y) (sym (step-is (look d w .core) (look d w .lent) e (look-sound d w k)))
-      (pair (Sim.sim (w .core) (w .lent) k d d3 r (eventOf e) (subst (λ (x : Stepped). reachesBy r d (w .core .port .selected) (w .core .port .online) (x .turn .answer) (eventOf e) ≡ true) (step-is (w .core) (w .lent) e k) h))))
+      (pair (Sim.sim (w .core) (w .lent) k d d3 r (eventOf e)
+      (subst (λ (x : Stepped). reachesBy r d (w .core .port .selected) (w .core .port .online) (x .turn .answer) (eventOf e) ≡ true)
+      (step-is (w .core) (w .lent) e k) h))))
     where
       s : Stepped
       s = settled (w .core) (w .lent) (eventOf e) (refusalIn (w .core) (eventOf e))
@@ -51,7 +53,9 @@ module _ (d : ℕ) (d3 : d ≤ 3) (w : World) (k : Sound (w .core) (w .lent)) (e
       s′ = settled (look d w .core) (look d w .lent) (eventOf e) (refusalIn (look d w .core) (eventOf e))
 
       Pair : Stepped → Stepped → Type 0
-      Pair x y = (Sim.seenIn d x ≡ Sim.seenIn d y) × (gaveBy d (w .core .port .selected) (eventOf e) (x .turn) ≡ gaveBy d (look d w .core .port .selected) (eventOf e) (y .turn))
+      Pair x y =
+          (Sim.seenIn d x ≡ Sim.seenIn d y)
+          × (gaveBy d (w .core .port .selected) (eventOf e) (x .turn) ≡ gaveBy d (look d w .core .port .selected) (eventOf e) (y .turn))
 
       pair : Sim.Sim d (eventOf e) (w .core) (look d w .core) s s′ → Pair s s′
       pair m = (m .view, ap₂ (λ (x : Option Answer) (y : Option Shown). record { answer = x; shown = y }) (m .answer) (m .shown))
@@ -59,7 +63,10 @@ module _ (d : ℕ) (d3 : d ≤ 3) (w : World) (k : Sound (w .core) (w .lent)) (e
   -- it does not: d sees the same world after it
   skip : reaches realChange d w e ≡ false → look d (after w e) ≡ look d w
   unfolding reaches after turnOf
-  skip h = rw (step-is (w .core) (w .lent) e k) (Sim.still (w .core) (w .lent) k d d3 (eventOf e) (named-real e) (subst (λ (x : Stepped). reachesBy realChange d (w .core .port .selected) (w .core .port .online) (x .turn .answer) (eventOf e) ≡ false) (step-is (w .core) (w .lent) e k) h))
+  skip h =
+      rw (step-is (w .core) (w .lent) e k) (Sim.still (w .core) (w .lent) k d d3 (eventOf e) (named-real e)
+      (subst (λ (x : Stepped). reachesBy realChange d (w .core .port .selected) (w .core .port .online) (x .turn .answer) (eventOf e) ≡ false)
+      (step-is (w .core) (w .lent) e k) h))
 
 -- ---- a run
 
@@ -96,12 +103,14 @@ strong r d w e h = go (eventOf e) h
     x : Answer
     x = turnOf w e .answer
 
-    go : (v : Event) → reachesBy r d (w .core .port .selected) (w .core .port .online) (turnOf w e .answer) v ≡ false → reachesBy realChange d (w .core .port .selected) (w .core .port .online) (turnOf w e .answer) v ≡ false
+    go : (v : Event) → reachesBy r d (w .core .port .selected) (w .core .port .online) (turnOf w e .answer) v ≡ false
+        → reachesBy realChange d (w .core .port .selected) (w .core .port .online) (turnOf w e .answer) v ≡ false
     go NoEvent h = h
     go Reset h = h
     go (Named i x) h = h
     go (Own a) h =
-        fewer (eqb (w .core .port .selected) d) (answered x) (changes r a (w .core .port .online)) (changes realChange a (w .core .port .online)) (accepted x && selects d a) (real-counts r a (w .core .port .online)) h
+        fewer (eqb (w .core .port .selected) d) (answered x) (changes r a (w .core .port .online)) (changes realChange a (w .core .port .online))
+        (accepted x && selects d a) (real-counts r a (w .core .port .online)) h
 
 record Follows (r : Change) (d : ℕ) (w : World) (es : List (List ℕ)) : Type 0 where
   ends : look d (run w es) ≡ sightRun d (look d w) (reached r d w es)
@@ -114,16 +123,22 @@ after-sound w e k = step-stays-sound (w .core) (w .lent) e k
 follows : (r : Change) (d : ℕ) → d ≤ 3 → (es : List (List ℕ)) (w : World) → Sound (w .core) (w .lent) → Follows r d w es
 unfolding sightRun sightGave
 follows r d d3 [] w k = record { ends = refl; tells = refl }
-follows r d d3 (e ∷ es) w k = let x = go (reaches r d w e) refl (follows r d d3 es (after w e) (after-sound w e k)) in record { ends = x .0; tells = x .1 }
+follows r d d3 (e ∷ es) w k =
+    let x = go (reaches r d w e) refl (follows r d d3 es (after w e) (after-sound w e k)) in
+    record { ends = x .0; tells = x .1 }
   where
     rest : List (List ℕ)
     rest = reached r d (after w e) es
 
     go : (b : Bool) → reaches r d w e ≡ b → Follows r d (after w e) es
-        → (look d (run (after w e) es) ≡ sightRun d (look d w) (onlyIf b e rest)) × (onlyIf b (gave d w e) (given r d (after w e) es) ≡ sightGave d (look d w) (onlyIf b e rest))
+        → (look d (run (after w e) es) ≡ sightRun d (look d w) (onlyIf b e rest))
+        × (onlyIf b (gave d w e) (given r d (after w e) es) ≡ sightGave d (look d w) (onlyIf b e rest))
     go true h ih =
-        let f = follow d d3 w k e r h in
-        (ih .ends ∙ ap (λ (v : World). sightRun d v rest) (f .0), ap₂ (λ (x : Gave) (y : List Gave). x ∷ y) (f .1) (ih .tells ∙ ap (λ (v : World). sightGave d v rest) (f .0)))
+        let f = follow d d3 w k e r h in (
+          ih .ends ∙ ap (λ (v : World). sightRun d v rest) (f .0),
+          ap₂ (λ (x : Gave) (y : List Gave). x ∷ y) (f .1) (ih .tells
+              ∙ ap (λ (v : World). sightGave d v rest) (f .0)),
+        )
     go false h ih =
         let f = skip d d3 w k e (strong r d w e h) in
         (ih .ends ∙ ap (λ (v : World). sightRun d v rest) f, ih .tells ∙ ap (λ (v : World). sightGave d v rest) f)
@@ -136,7 +151,13 @@ unfolding pick
 pending-look d w k = rw (here-same d (w .core .port)) (go (eqb (w .core .port .selected) d) refl)
   where
     held : World → Pending
-    held v = record { phase = v .core .port .phase; part = take (givenBefore (v .core .port .phase)) (v .lent .staging); octets = octetsIn (v .core .port .phase) (v .core .port .octets) }
+    held v =
+        record {
+          phase = v .core .port .phase;
+          part = take (givenBefore (v .core .port .phase)) (v .lent .staging);
+          octets = octetsIn
+              (v .core .port .phase) (v .core .port .octets);
+        }
 
     of : Phase → List ℕ → List ℕ → Pending
     of ph g o = record { phase = ph; part = take (givenBefore ph) g; octets = octetsIn ph o }
@@ -145,8 +166,10 @@ pending-look d w k = rw (here-same d (w .core .port)) (go (eqb (w .core .port .s
     go true e =
         let ph = w .core .port .phase in
         ap some
-        (ap₂ (λ (g : List ℕ) (o : List ℕ). record { phase = ph; part = g; octets = o }) (given-seen ph (w .lent .staging) (place-below ph _ (k .phase)) (k .whole)) (sym (octets-twice ph (w .core .port .octets)))
-        ∙ ap₂ (λ (q : Port) (g : List ℕ). of (q .phase) g (q .octets)) (sym (seen-here d (w .core .port) e)) (sym (staging-here d (w .core .port) (w .lent .staging) e)))
+        (ap₂ (λ (g : List ℕ) (o : List ℕ). record { phase = ph; part = g; octets = o })
+        (given-seen ph (w .lent .staging) (place-below ph _ (k .phase)) (k .whole)) (sym (octets-twice ph (w .core .port .octets)))
+        ∙ ap₂ (λ (q : Port) (g : List ℕ). of (q .phase) g (q .octets)) (sym (seen-here d (w .core .port) e))
+        (sym (staging-here d (w .core .port) (w .lent .staging) e)))
     go false e = refl
 
 alike : (d : ℕ) (w w′ : World) → Sound (w .core) (w .lent) → Sound (w′ .core) (w′ .lent) → look d w ≡ look d w′ → Alike d w w′
@@ -162,25 +185,30 @@ run-sound [] w k = k
 run-sound (e ∷ es) w k = run-sound es (after w e) (after-sound w e k)
 
 -- the general form: any two sound worlds that d sees alike
-same-fate : (r : Change) (d : ℕ) → d ≤ 3 → (w w′ : World) → Sound (w .core) (w .lent) → Sound (w′ .core) (w′ .lent) → look d w ≡ look d w′ → (es es′ : List (List ℕ))
+same-fate : (r : Change) (d : ℕ) → d ≤ 3 → (w w′ : World) → Sound (w .core) (w .lent) → Sound (w′ .core) (w′ .lent) → look d w ≡ look d w′
+    → (es es′ : List (List ℕ))
     → reached r d w es ≡ reached r d w′ es′ → SameFate r d w w′ es es′
 same-fate r d d3 w w′ k k′ e es es′ q =
     let f = follows r d d3 es w k in
     let f′ = follows r d d3 es′ w′ k′ in
     record {
-      ends = alike d (run w es) (run w′ es′) (run-sound es w k) (run-sound es′ w′ k′) (f .ends ∙ ap₂ (λ (v : World) (l : List (List ℕ)). sightRun d v l) e q ∙ sym (f′ .ends));
+      ends =
+          alike d (run w es) (run w′ es′) (run-sound es w k) (run-sound es′ w′ k′) (f .ends
+          ∙ ap₂ (λ (v : World) (l : List (List ℕ)). sightRun d v l) e q ∙ sym (f′ .ends));
       gives = f .tells ∙ ap₂ (λ (v : World) (l : List (List ℕ)). sightGave d v l) e q ∙ sym (f′ .tells);
     }
 
 fresh-sound : (a b c e : List ℕ) → short (freshWorld a b c e .lent) ≡ true → Sound (freshWorld a b c e .core) (freshWorld a b c e .lent)
 fresh-sound a b c e h = sound freshCore (freshWorld a b c e .lent) fresh-is-possible h (length-replicate {A = ℕ} 512 0)
 
-fresh-look : (d : ℕ) → d ≤ 3 → (a b c e a′ b′ c′ e′ : List ℕ) → tapeAt (freshWorld a b c e .lent) d ≡ tapeAt (freshWorld a′ b′ c′ e′ .lent) d → look d (freshWorld a b c e) ≡ look d (freshWorld a′ b′ c′ e′)
+fresh-look : (d : ℕ) → d ≤ 3 → (a b c e a′ b′ c′ e′ : List ℕ) → tapeAt (freshWorld a b c e .lent) d ≡ tapeAt (freshWorld a′ b′ c′ e′ .lent) d
+    → look d (freshWorld a b c e) ≡ look d (freshWorld a′ b′ c′ e′)
 fresh-look d d3 a b c e a′ b′ c′ e′ q = rw q
 
 demand-3-for : (r : Change) → Demand3For r
 demand-3-for r d d3 a b c e a′ b′ c′ e′ h h′ q es es′ s =
-    same-fate r d d3 (freshWorld a b c e) (freshWorld a′ b′ c′ e′) (fresh-sound a b c e h) (fresh-sound a′ b′ c′ e′ h′) (fresh-look d d3 a b c e a′ b′ c′ e′ q) es es′ s
+    same-fate r d d3 (freshWorld a b c e) (freshWorld a′ b′ c′ e′) (fresh-sound a b c e h) (fresh-sound a′ b′ c′ e′ h′)
+    (fresh-look d d3 a b c e a′ b′ c′ e′ q) es es′ s
 
 pub demand-3 : Demand3
 demand-3 = demand-3-for realChange

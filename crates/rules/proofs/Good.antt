@@ -116,15 +116,24 @@ open-plug Reading l p h w q = let z : _≡_ {A = ℕ} 0 1 = cc in omega arith
 
 module _ (g : List ℕ) (w512 : length g ≡ 512) (s : Seat) (ok : SoundSeat s) where
   -- only the record changed, at Rest
-  quiet : (m : Acted) → m .tape ≡ s .tape → m .moved .port .phase ≡ Rest → m .moved .port .selected ≡ s .port .selected → Fit (m .moved .drive) → Good s m
+  quiet : (m : Acted) → m .tape ≡ s .tape → m .moved .port .phase ≡ Rest → m .moved .port .selected ≡ s .port .selected → Fit (m .moved .drive)
+      → Good s m
   quiet m t p n f = record { fit = f; long = ap length t; land = rests p (rw n (ok .sel)); plug = λ _. t }
 
-  mark-good : (m : Acted) → s .drive .protected ≡ false → s .drive .head + 1 ≤ length (s .tape) → m .tape ≡ recorded (s .tape) (s .drive .head) markRecord
+  mark-good : (m : Acted) → s .drive .protected ≡ false → s .drive .head + 1 ≤ length (s .tape)
+      → m .tape ≡ recorded (s .tape) (s .drive .head) markRecord
       → m .moved .port .phase ≡ Rest → m .moved .port .selected ≡ s .port .selected → Fit (m .moved .drive) → Good s m
   mark-good m o r t p n f =
-      record { fit = f; long = ap length t ∙ recorded-length (s .tape) markRecord (s .drive .head) r; land = rests p (rw n (ok .sel)); plug = λ q. absurd (true≢false (sym q ∙ o)) }
+      record {
+        fit = f;
+        long = ap length t
+            ∙ recorded-length (s .tape) markRecord (s .drive .head) r;
+        land = rests p (rw n (ok .sel));
+        plug = λ q. absurd (true≢false (sym q ∙ o));
+      }
 
-  block-good : (m : Acted) → s .drive .mode ≡ Writing → s .drive .head + 1541 ≤ length (s .tape) → m .tape ≡ recorded (s .tape) (s .drive .head) (blockRecord g)
+  block-good : (m : Acted) → s .drive .mode ≡ Writing → s .drive .head + 1541 ≤ length (s .tape)
+      → m .tape ≡ recorded (s .tape) (s .drive .head) (blockRecord g)
       → m .moved .port .phase ≡ Rest → m .moved .port .selected ≡ s .port .selected → Fit (m .moved .drive) → Good s m
   block-good m w r t p n f =
       record {
@@ -146,20 +155,42 @@ module _ (g : List ℕ) (w512 : length g ≡ 512) (s : Seat) (ok : SoundSeat s) 
 
   pub does-good : (a : Act) (m : Acted) → Acts.Does g s a m → Good s m
   does-good a m (Acts.nothing c) = quiet m refl refl refl (ok .fit)
-  does-good a m (Acts.selects c n l e) = record { fit = record { near = ok .fit .near; mode = ok .fit .mode }; long = refl; land = rests refl l; plug = λ _. refl }
+  does-good a m (Acts.selects c n l e) =
+      record { fit = record { near = ok .fit .near; mode = ok .fit .mode }; long = refl; land = rests refl l; plug = λ _. refl }
   does-good a m (Acts.rewinds c) = quiet m refl refl refl (fit-head (s .drive) 0 (ok .fit) zero-le)
   does-good a m (Acts.erases p) =
-      record { fit = fit-head (s .drive) 0 (ok .fit) zero-le; long = length-replicate _ _; land = rests refl (ok .sel); plug = λ q. absurd (true≢false (sym q ∙ p .plug)) }
+      record {
+        fit = fit-head (s .drive) 0 (ok .fit) zero-le;
+        long = length-replicate _ _;
+        land = rests refl (ok .sel);
+        plug = λ q.
+            absurd (true≢false (sym q ∙ p .plug));
+      }
   does-good a m (Acts.sets-writing c p) =
-      quiet m refl refl refl (record { near = ok .fit .near; mode = join (s .drive .loaded) (not (s .drive .protected)) (not-not (s .drive .loaded) (p .cartridge)) (ap not (p .plug)) })
+      quiet m refl refl refl
+      (record {
+        near = ok .fit .near;
+        mode = join (s .drive .loaded) (not (s .drive .protected)) (not-not (s .drive .loaded) (p .cartridge))
+            (ap not (p .plug));
+      })
   does-good a m (Acts.records-mark c p) =
       let r : s .drive .head + 1 ≤ length (s .tape) = leb-true _ _ (p .room) in
-      mark-good m (p .plug) r refl refl refl (fit-idle (made (s .drive .head + 1) (s .drive)) (fit-head (s .drive) (s .drive .head + 1) (ok .fit) (omega (arith, ok .near))))
+      mark-good m (p .plug) r refl refl refl
+      (fit-idle (made (s .drive .head + 1) (s .drive)) (fit-head (s .drive) (s .drive .head + 1) (ok .fit) (omega (arith, ok .near))))
   does-good a m (Acts.sets-reading c p) =
-      quiet m refl refl refl (checked-fit (s .tape) (inMode Reading (s .drive)) (ok .near) (record { near = ok .fit .near; mode = not-not (s .drive .loaded) (p .cartridge) }))
+      quiet m refl refl refl (checked-fit (s .tape) (inMode Reading (s .drive)) (ok .near)
+      (record { near = ok .fit .near; mode = not-not (s .drive .loaded) (p .cartridge) }))
   does-good a m (Acts.searches c) =
-      quiet m refl refl refl (standing-fit (passed (s .tape) (s .drive .head)) (s .drive) (ok .fit) (passed-within (s .tape) (s .drive .head) longest (ok .near) (ok .fit .near)))
-  does-good a m Acts.reports = record { fit = record { near = ok .fit .near; mode = ok .fit .mode }; long = refl; land = stays refl (six-fit (s .drive .mode)); plug = λ _. refl }
+      quiet m refl refl refl (standing-fit (passed (s .tape) (s .drive .head)) (s .drive) (ok .fit)
+      (passed-within (s .tape) (s .drive .head) longest (ok .near) (ok .fit .near)))
+  does-good a m Acts.reports =
+      record {
+        fit = record { near = ok .fit .near; mode = ok .fit .mode };
+        long = refl;
+        land = stays refl (six-fit (s .drive .mode));
+        plug = λ _.
+            refl;
+      }
   does-good a m (Acts.faults c b) = quiet m refl refl refl (record { near = ok .fit .near; mode = ok .fit .mode })
   does-good a m (Acts.meets-plug c) = quiet m refl refl refl (record { near = ok .fit .near; mode = ok .fit .mode })
   does-good a m (Acts.finds-no-room c) = quiet m refl refl refl (fit-stop Eom (s .drive) (ok .fit))
@@ -175,7 +206,8 @@ module _ (g : List ℕ) (w512 : length g ≡ 512) (s : Seat) (ok : SoundSeat s) 
       record { fit = ok .fit; long = refl; land = stays refl (giving-fits n (s .drive .mode) l w); plug = λ _. refl }
   does-good a m (Acts.hands-last q w e) =
       quiet m refl refl refl
-      (checked-fit (s .tape) _ (ok .near) (fit-head (s .drive) (s .drive .head + 513) (ok .fit) (omega (arith, block-fits (s .tape) (s .drive .head) e, ok .near))))
+      (checked-fit (s .tape) _ (ok .near)
+      (fit-head (s .drive) (s .drive .head + 513) (ok .fit) (omega (arith, block-fits (s .tape) (s .drive .head) e, ok .near))))
   does-good a m (Acts.meets-edge r) = quiet m refl refl refl (checked-fit (s .tape) (s .drive) (ok .near) (ok .fit))
   does-good a m Acts.goes-up = quiet m refl refl refl (ok .fit)
   does-good a m Acts.goes-down = quiet m refl refl refl (ok .fit)

@@ -38,7 +38,8 @@ first-is false false false false = (λ h. cc, λ h. cc)
 pub illegal-exactly : IllegalExactly
 unfolding faultOf faultBy illegal
 illegal-exactly s o =
-    first-is (firstFour s o) (test5 (s .drive) (needsOf o)) (test6 (s .drive) (needsOf o)) (hasRoom (needsOf o .room) (s .drive .head) (length (s .tape)))
+    first-is (firstFour s o) (test5 (s .drive) (needsOf o)) (test6 (s .drive) (needsOf o))
+    (hasRoom (needsOf o .room) (s .drive .head) (length (s .tape)))
 
 pub illegal-changes-nothing : IllegalChangesNothing
 illegal-changes-nothing g s c h =
@@ -76,7 +77,8 @@ ordered-ill s Read h = sym (checked-ill (s .tape) (inMode Reading (s .drive))) �
 ordered-ill s ReadMark h = sym (searched-ill (passed (s .tape) (s .drive .head)) (s .drive)) ∙ h
 ordered-ill s ReadStatus h = absurd (false≢true h)
 
-commanded-ill : (s : Seat) (o : Order) (f : Fault) → (f ≡ Illegal → ⊥) → commanded s o f .moved .drive .latched .ill ≡ true → s .drive .latched .ill ≡ true
+commanded-ill : (s : Seat) (o : Order) (f : Fault) → (f ≡ Illegal → ⊥) → commanded s o f .moved .drive .latched .ill ≡ true
+    → s .drive .latched .ill ≡ true
 commanded-ill s o Fine n h = ordered-ill s o h
 commanded-ill s o Illegal n h = absurd (n refl)
 commanded-ill s o Empty n h = h

@@ -69,7 +69,13 @@ reset-sound : (c : Core) (l : Lent) → Sound c l → Sound (resetCore c) l
 unfolding possiblePhase
 reset-sound c l k =
     let f = all-hold Fit (c .drive0) (c .drive1) (c .drive2) (c .drive3) (k .fit) in
-    record { sel = zero-le; phase = refl; fit = one-holds Fit (one _ (f .0)) (one _ (f .1)) (one _ (f .2)) (one _ (f .3)); near = k .near; whole = k .whole }
+    record {
+      sel = zero-le;
+      phase = refl;
+      fit = one-holds Fit (one _ (f .0)) (one _ (f .1)) (one _ (f .2)) (one _ (f .3));
+      near = k .near;
+      whole = k .whole;
+    }
   where
     one : (d : Drive) → Fit d → Fit (wasReset d)
     one d f = record { near = zero-le; mode = idle-fits (d .mode) (d .loaded) (d .protected) (f .mode) }
@@ -82,13 +88,15 @@ empty-idle Reading true p e h = cc
 empty-idle Reading false p e h = cc
 
 befallen-fit : (d : Drive) (w : What) → slotAnswer (d .loaded) w ≡ Taken → Fit d → Fit (befallen w d)
-befallen-fit d (In p) h f = record { near = zero-le; mode = rw (empty-idle (d .mode) (d .loaded) (d .protected) (slot-empty (d .loaded) h) (f .mode)) }
+befallen-fit d (In p) h f =
+    record { near = zero-le; mode = rw (empty-idle (d .mode) (d .loaded) (d .protected) (slot-empty (d .loaded) h) (f .mode)) }
 befallen-fit d Out h f = record { near = zero-le; mode = refl }
 befallen-fit d Error h f = record { near = f .near; mode = f .mode }
 befallen-fit d Underrun h f = record { near = f .near; mode = f .mode }
 
 -- the phase still goes with the mode, where the drive named is the selected one and where it is not
-befallen-phase : (d : Drive) (w : What) (ph : Phase) → possiblePhase ph (d .mode) ≡ true → possiblePhase (phaseAfter w true ph) (befallen w d .mode) ≡ true
+befallen-phase : (d : Drive) (w : What) (ph : Phase) → possiblePhase ph (d .mode) ≡ true
+    → possiblePhase (phaseAfter w true ph) (befallen w d .mode) ≡ true
 unfolding pick possiblePhase
 befallen-phase d (In p) ph h = h
 befallen-phase d Out Rest h = refl
@@ -105,7 +113,8 @@ away-phase Out ph = refl
 away-phase Error ph = refl
 away-phase Underrun ph = refl
 
-named-sound : (c : Core) (l : Lent) → Sound c l → (i : ℕ) (w : What) → i ≤ 3 → slotAnswer (driveAt c i .loaded) w ≡ Taken → Sound (effectOf c l (Named i w) .turn .core) l
+named-sound : (c : Core) (l : Lent) → Sound c l → (i : ℕ) (w : What) → i ≤ 3 → slotAnswer (driveAt c i .loaded) w ≡ Taken
+    → Sound (effectOf c l (Named i w) .turn .core) l
 named-sound c l k i w r h = record { sel = k .sel; phase = go (eqb i n) refl; fit = fits; near = k .near; whole = k .whole }
   where
     n : ℕ
@@ -124,7 +133,8 @@ named-sound c l k i w r h = record { sel = k .sel; phase = go (eqb i n) refl; fi
 
     go : (b : Bool) → eqb i n ≡ b → possiblePhase (phaseAfter w b (c .port .phase)) (driveAt (putDrive c (at b) i d) n .mode) ≡ true
     go true e = rw (eqb-true i n e, put-same) (befallen-phase (driveAt c n) w (c .port .phase) (k .phase))
-    go false e = rw (away-phase, put-other d (c .drive0) (c .drive1) (c .drive2) (c .drive3) (four i r) (four n (k .sel)) (eqb-false i n e)) (k .phase)
+    go false e =
+        rw (away-phase, put-other d (c .drive0) (c .drive1) (c .drive2) (c .drive3) (four i r) (four n (k .sel)) (eqb-false i n e)) (k .phase)
 
 -- ---- a step
 
@@ -135,7 +145,8 @@ effect-sound c l Reset k r h = reset-sound c l k
 effect-sound c l (Named i w) k r h = named-sound c l k i w (r i w refl) h
 effect-sound c l (Own a) k r h =
     let k2 = staged-sound c l a k in
-    landed-sound c (stagedIn c a l) _ k2 (Good.does-good (stagedIn c a l .staging) (k2 .whole) (seatOf c l) (sound-seat c l k) a _ (own-does c l a k h))
+    landed-sound c (stagedIn c a l) _ k2 (Good.does-good (stagedIn c a l .staging) (k2 .whole) (seatOf c l) (sound-seat c l k) a _
+    (own-does c l a k h))
 
 pub step-stays-sound : (c : Core) (l : Lent) (event : List ℕ) → Sound c l → Sound (stepOf c l event .turn .core) (stepOf c l event .lent)
 step-stays-sound c l event k =
@@ -154,18 +165,22 @@ fresh-is-possible = refl
 
 pub own-tape : (c : Core) (l : Lent) (a : Act) (i : ℕ) → i ≤ 3 → Sound c l
     → Got i (c .port .selected) (act (stagedIn c a l .staging) (seatOf c l) a .tape) (tapeAt l i) (tapeAt (effectOf c l (Own a) .lent) i)
-own-tape c l a i r k = got i (c .port .selected) (act (stagedIn c a l .staging) (seatOf c l) a .tape) (l .tape0) (l .tape1) (l .tape2) (l .tape3) r (k .sel)
+own-tape c l a i r k =
+    got i (c .port .selected) (act (stagedIn c a l .staging) (seatOf c l) a .tape) (l .tape0) (l .tape1) (l .tape2) (l .tape3) r (k .sel)
 
 -- what holds of every tape before and after: an act's good tape, and each tape as it was
 tape-step : (P : List ℕ → List ℕ → Type 0) → ((t : List ℕ) → P t t) → (c : Core) (l : Lent) (event : List ℕ) (i : ℕ) → i ≤ 3 → Whole l
-    → ((m : Acted) → Good.Good (seatOf c l) m → c .port .selected ≡ i → P (tapeAt l (c .port .selected)) (m .tape)) → P (tapeAt l i) (tapeAt (stepOf c l event .lent) i)
+    → ((m : Acted) → Good.Good (seatOf c l) m → c .port .selected ≡ i → P (tapeAt l (c .port .selected)) (m .tape))
+    → P (tapeAt l i) (tapeAt (stepOf c l event .lent) i)
 tape-step P same-tape c l event i r w f = sound-step (λ s. P (tapeAt l i) (tapeAt (s .lent) i)) c l event w (λ _. same-tape _) (go (eventOf event))
   where
-    own : (a : Act) (t : List ℕ) → Got i (c .port .selected) (act (stagedIn c a l .staging) (seatOf c l) a .tape) (tapeAt l i) t → Sound c l → refusalIn c (Own a) ≡ Taken → P (tapeAt l i) t
+    own : (a : Act) (t : List ℕ) → Got i (c .port .selected) (act (stagedIn c a l .staging) (seatOf c l) a .tape) (tapeAt l i) t → Sound c l
+        → refusalIn c (Own a) ≡ Taken → P (tapeAt l i) t
     own a t (other n) k h = same-tape _
     own a t (same e) k h =
         subst (λ (j : ℕ). P (tapeAt l j) (act (stagedIn c a l .staging) (seatOf c l) a .tape)) e
-        (f (act (stagedIn c a l .staging) (seatOf c l) a) (Good.does-good (stagedIn c a l .staging) (staged-sound c l a k .whole) (seatOf c l) (sound-seat c l k) a _ (own-does c l a k h)) e)
+        (f (act (stagedIn c a l .staging) (seatOf c l) a)
+        (Good.does-good (stagedIn c a l .staging) (staged-sound c l a k .whole) (seatOf c l) (sound-seat c l k) a _ (own-does c l a k h)) e)
 
     go : (e : Event) → Sound c l → refusalIn c e ≡ Taken → P (tapeAt l i) (tapeAt (effectOf c l e .lent) i)
     go NoEvent k h = same-tape _
@@ -181,4 +196,5 @@ protected-keeps c l event i r w p =
     tape-step (λ t t′. t′ ≡ t) (λ _. refl) c l event i r w (λ m g e. g .plug (subst (λ (j : ℕ). driveAt c j .protected ≡ true) (sym e) p))
 
 pub staging-stays-whole : StagingStaysWhole
-staging-stays-whole c l event w = sound-step (λ s. Whole (s .lent)) c l event w (λ _. w) (λ k h. effect-sound c l (eventOf event) k (named-real event) h .whole)
+staging-stays-whole c l event w =
+    sound-step (λ s. Whole (s .lent)) c l event w (λ _. w) (λ k h. effect-sound c l (eventOf event) k (named-real event) h .whole)

@@ -89,7 +89,8 @@ report-same d e l x n = record { bits = rw l (bits-same (d .latched)); errors = 
 report-then : (d e f : Drive) → e .latched ≡ d .latched → e .errors ≡ d .errors → e .underruns ≡ d .underruns → ReportStays e f → ReportStays d f
 report-then d e f l x n r = record { bits = rw l at (r .bits); errors = rw x at (r .errors); underruns = rw n at (r .underruns) }
 
-pub report-more : (d e : Drive) (b : Bit) → e .latched ≡ withBit b (d .latched) → e .errors ≡ d .errors → e .underruns ≡ d .underruns → ReportStays d e
+pub report-more : (d e : Drive) (b : Bit) → e .latched ≡ withBit b (d .latched) → e .errors ≡ d .errors → e .underruns ≡ d .underruns
+    → ReportStays d e
 report-more d e b l x n = record { bits = rw l (bits-more b (d .latched)); errors = rw x (omega arith); underruns = rw n (omega arith) }
 
 halted-report : (w : Why) (d : Drive) (h : ℕ) → ReportStays d (halted w (passedTo h d))
@@ -135,7 +136,8 @@ module _ (g : List ℕ) (s : Seat) where
     quiet : m .moved .raised ≡ false → m .moved .drive .exception ≡ true → s .drive .exception ≡ true
     report : ReportStays (s .drive) (m .moved .drive)
 
-  calm : (m : Acted) → m .moved .raised ≡ false → m .moved .drive .exception ≡ s .drive .exception → ReportStays (s .drive) (m .moved .drive) → Reported m
+  calm : (m : Acted) → m .moved .raised ≡ false → m .moved .drive .exception ≡ s .drive .exception → ReportStays (s .drive) (m .moved .drive)
+      → Reported m
   calm m r e b = record { held = λ u. e ∙ u; raise = λ h. absurd (false≢true (sym r ∙ h)); quiet = λ _ u. sym e ∙ u; report = b }
 
   loud : (m : Acted) → m .moved .raised ≡ true → m .moved .drive .exception ≡ true → ReportStays (s .drive) (m .moved .drive) → Reported m
@@ -145,23 +147,28 @@ module _ (g : List ℕ) (s : Seat) where
       → m .moved .drive .errors ≡ s .drive .errors → m .moved .drive .underruns ≡ s .drive .underruns → Reported m
   as-was m r e l x n = calm m r e (report-same (s .drive) (m .moved .drive) l x n)
 
-  one-bit : (m : Acted) (b : Bit) → m .moved .raised ≡ true → m .moved .drive .exception ≡ true → m .moved .drive .latched ≡ withBit b (s .drive .latched)
+  one-bit : (m : Acted) (b : Bit) → m .moved .raised ≡ true → m .moved .drive .exception ≡ true
+      → m .moved .drive .latched ≡ withBit b (s .drive .latched)
       → m .moved .drive .errors ≡ s .drive .errors → m .moved .drive .underruns ≡ s .drive .underruns → Reported m
   one-bit m b r e l x n = loud m r e (report-more (s .drive) (m .moved .drive) b l x n)
 
   -- the edge check made on a record d that has the drive's report
-  edge : (m : Acted) (d : Drive) → d .exception ≡ s .drive .exception → d .latched ≡ s .drive .latched → d .errors ≡ s .drive .errors → d .underruns ≡ s .drive .underruns
+  edge : (m : Acted) (d : Drive) → d .exception ≡ s .drive .exception → d .latched ≡ s .drive .latched → d .errors ≡ s .drive .errors
+      → d .underruns ≡ s .drive .underruns
       → m .moved .raised ≡ checked (s .tape) d .raised → m .moved .drive ≡ checked (s .tape) d .drive → Reported m
   edge m d e l x n r q =
       record {
         held = λ u. ap (λ (y : Drive). y .exception) q ∙ checked-held (s .tape) d (e ∙ u);
         raise = λ h. ap (λ (y : Drive). y .exception) q ∙ checked-up (s .tape) d (sym r ∙ h);
-        quiet = λ h u. sym e ∙ sym (ap (λ (y : Drive). y .exception) (checked-same (s .tape) d (sym r ∙ h))) ∙ sym (ap (λ (y : Drive). y .exception) q) ∙ u;
+        quiet =
+            λ h u. sym e ∙ sym (ap (λ (y : Drive). y .exception) (checked-same (s .tape) d (sym r ∙ h)))
+            ∙ sym (ap (λ (y : Drive). y .exception) q) ∙ u;
         report = rw q (report-then (s .drive) d _ l x n (checked-report (s .tape) d));
       }
 
   -- a leaf without a byte, with a byte that no exception follows, with byte 512
-  silent : (a : Act) (m : Acted) → Reported m → (length g ≡ 512 → Change (Own a) (s .tape) (s .drive .head) (m .tape)) → m .moved .given ≡ false → m .moved .byte ≡ 0 → Leaf a m
+  silent : (a : Act) (m : Acted) → Reported m → (length g ≡ 512 → Change (Own a) (s .tape) (s .drive .head) (m .tape)) → m .moved .given ≡ false
+      → m .moved .byte ≡ 0 → Leaf a m
   silent a m r c n z =
       record {
         held = λ u _. r .held u;
@@ -174,7 +181,8 @@ module _ (g : List ℕ) (s : Seat) where
         last = λ h _. absurd (false≢true (sym n ∙ h));
       }
 
-  handing : (m : Acted) → Reported m → m .tape ≡ s .tape → m .moved .given ≡ true → (m .moved .raised ≡ true → s .port .phase ≡ Giving 511) → Leaf Take m
+  handing : (m : Acted) → Reported m → m .tape ≡ s .tape → m .moved .given ≡ true → (m .moved .raised ≡ true → s .port .phase ≡ Giving 511)
+      → Leaf Take m
   handing m r t n z =
       record {
         held = λ u _. r .held u;
@@ -218,7 +226,8 @@ module _ (g : List ℕ) (s : Seat) where
   does-leaf a m (Acts.drops-block b) = silent a m (one-bit m Eom refl refl refl refl refl) (λ _. unchanged) refl refl
   does-leaf a m (Acts.hands-octet k e) = handing m (as-was m refl refl refl refl refl) refl refl (λ h. absurd (false≢true h))
   does-leaf a m (Acts.hands-byte k l w e) = handing m (as-was m refl refl refl refl refl) refl refl (λ h. absurd (false≢true h))
-  does-leaf a m (Acts.hands-last q w e) = handing m (edge m (passedTo (s .drive .head + 513) (s .drive)) refl refl refl refl refl refl) refl refl (λ _. q)
+  does-leaf a m (Acts.hands-last q w e) =
+      handing m (edge m (passedTo (s .drive .head + 513) (s .drive)) refl refl refl refl refl refl) refl refl (λ _. q)
   does-leaf a m (Acts.meets-edge r) = silent a m (edge m (s .drive) refl refl refl refl (sym r) refl) (λ _. unchanged) refl refl
   does-leaf a m Acts.finds-no-block = silent a m (one-bit m Ude refl refl refl refl refl) (λ _. unchanged) refl refl
   does-leaf a m Acts.goes-up = silent a m (as-was m refl refl refl refl refl) (λ _. unchanged) refl refl

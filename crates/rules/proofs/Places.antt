@@ -28,7 +28,8 @@ pub put-same : {A : Type 0} (i : ℕ) (x a b c d : A) → oneOf i (putAt 0 i x a
 unfolding pick oneOf putAt putLast
 put-same {A} i x a b c d = go (eqb i 0) (eqb i 1) (eqb i 2) refl refl refl
   where
-    go : (p q r : Bool) → eqb i 0 ≡ p → eqb i 1 ≡ q → eqb i 2 ≡ r → pick p (pick p x a) (pick q (pick q x b) (pick r (pick r x c) (pick (leb 3 i) x d))) ≡ x
+    go : (p q r : Bool) → eqb i 0 ≡ p → eqb i 1 ≡ q → eqb i 2 ≡ r
+        → pick p (pick p x a) (pick q (pick q x b) (pick r (pick r x c) (pick (leb 3 i) x d))) ≡ x
     go true q r ep eq er = refl
     go false true r ep eq er = refl
     go false false true ep eq er = refl
@@ -42,7 +43,8 @@ put-back f zero a b c d = refl
 put-back f (suc zero) a b c d = refl
 put-back f (suc (suc zero)) a b c d = refl
 put-back f (suc (suc (suc n))) a b c d =
-    let i = suc (suc (suc n)) in rw (ne-eqb i 0 (λ p. omega (arith, p)), ne-eqb i 1 (λ p. omega (arith, p)), ne-eqb i 2 (λ p. omega (arith, p)), le-leb 3 i (omega arith)) refl
+    let i = suc (suc (suc n)) in
+    rw (ne-eqb i 0 (λ p. omega (arith, p)), ne-eqb i 1 (λ p. omega (arith, p)), ne-eqb i 2 (λ p. omega (arith, p)), le-leb 3 i (omega arith)) refl
 
 pub tape-back : (l : Lent) (i : ℕ) → putTape (putStaging l (l .staging)) i (tapeAt l i) ≡ l
 tape-back l i = put-back (lent (l .staging)) i (l .tape0) (l .tape1) (l .tape2) (l .tape3)
@@ -82,7 +84,8 @@ put-other x a b c d fourth fourth h = absurd (h refl)
 pub put-there : {A : Type 0} (i n : ℕ) (x a b c d : A) → n ≡ i → oneOf i (putAt 0 n x a) (putAt 1 n x b) (putAt 2 n x c) (putLast n x d) ≡ x
 put-there i n x a b c d e = rw (e, put-same)
 
-pub put-away : {A : Type 0} (i n : ℕ) (x a b c d : A) → i ≤ 3 → n ≤ 3 → (n ≡ i → ⊥) → oneOf i (putAt 0 n x a) (putAt 1 n x b) (putAt 2 n x c) (putLast n x d) ≡ oneOf i a b c d
+pub put-away : {A : Type 0} (i n : ℕ) (x a b c d : A) → i ≤ 3 → n ≤ 3 → (n ≡ i → ⊥)
+    → oneOf i (putAt 0 n x a) (putAt 1 n x b) (putAt 2 n x c) (putLast n x d) ≡ oneOf i a b c d
 put-away i n x a b c d hi hn e = put-other x a b c d (four n hn) (four i hi) e
 
 -- What holds of each of four holds of the one got; and of each of four after one was put, if it holds of that one.
@@ -117,7 +120,8 @@ pub data Got {A : Type 0} (i n : ℕ) (x old : A) : A → Type 0 where
   same : n ≡ i → Got i n x old x
   other : (n ≡ i → ⊥) → Got i n x old old
 
-pub got : {A : Type 0} (i n : ℕ) (x a b c d : A) → i ≤ 3 → n ≤ 3 → Got i n x (oneOf i a b c d) (oneOf i (putAt 0 n x a) (putAt 1 n x b) (putAt 2 n x c) (putLast n x d))
+pub got : {A : Type 0} (i n : ℕ) (x a b c d : A) → i ≤ 3 → n ≤ 3
+    → Got i n x (oneOf i a b c d) (oneOf i (putAt 0 n x a) (putAt 1 n x b) (putAt 2 n x c) (putLast n x d))
 got {A} i n x a b c d hi hn = go (eqb n i) refl
   where
     go : (t : Bool) → eqb n i ≡ t → Got i n x (oneOf i a b c d) (oneOf i (putAt 0 n x a) (putAt 1 n x b) (putAt 2 n x c) (putLast n x d))

@@ -53,14 +53,16 @@ other-drives-stay c l event i r w o m = sound-step (λ s. driveAt (s .turn .core
     unnamed : (j : ℕ) (x : What) → eqb j i ≡ false → j ≡ i → ⊥
     unnamed j x n e = false≢true (sym n ∙ eq-eqb j i e)
 
-    go : (e : Event) → eventOf event ≡ e → meansDrive e i ≡ false → Sound c l → refusalIn c e ≡ Taken → driveAt (effectOf c l e .turn .core) i ≡ driveAt c i
+    go : (e : Event) → eventOf event ≡ e → meansDrive e i ≡ false → Sound c l → refusalIn c e ≡ Taken
+        → driveAt (effectOf c l e .turn .core) i ≡ driveAt c i
     go NoEvent q n k h = refl
     go Reset q n k h = absurd (true≢false n)
     go (Named j x) q n k h = not-got i j _ _ _ (named-drive c l j x i r (named-real event j x q)) (unnamed j x n)
     go (Own a) q n k h = not-got i (c .port .selected) _ _ _ (own-drive c l a i r k) o
 
 pub only-acts-change-tapes : OnlyActsChangeTapes
-only-acts-change-tapes c l event = step-by (λ s. actsOnNoTape (eventOf event) ≡ true → s .lent ≡ l) c l event (λ a r n. refl) (λ p q r. go (eventOf event))
+only-acts-change-tapes c l event =
+    step-by (λ s. actsOnNoTape (eventOf event) ≡ true → s .lent ≡ l) c l event (λ a r n. refl) (λ p q r. go (eventOf event))
   where
     go : (e : Event) → actsOnNoTape e ≡ true → effectOf c l e .lent ≡ l
     go NoEvent n = refl
@@ -72,13 +74,16 @@ only-acts-change-tapes c l event = step-by (λ s. actsOnNoTape (eventOf event) �
 
 pub one-change : OneChange
 one-change c l event w =
-    sound-step (λ s. Change (eventOf event) (tapeAt l (c .port .selected)) (driveAt c (c .port .selected) .head) (tapeAt (s .lent) (c .port .selected))) c l event w (λ _. unchanged) (go (eventOf event))
+    sound-step (λ s. Change (eventOf event) (tapeAt l (c .port .selected)) (driveAt c (c .port .selected) .head)
+    (tapeAt (s .lent) (c .port .selected))) c l event w (λ _. unchanged) (go (eventOf event))
   where
-    go : (e : Event) → Sound c l → refusalIn c e ≡ Taken → Change e (tapeAt l (c .port .selected)) (driveAt c (c .port .selected) .head) (tapeAt (effectOf c l e .lent) (c .port .selected))
+    go : (e : Event) → Sound c l → refusalIn c e ≡ Taken → Change e (tapeAt l (c .port .selected)) (driveAt c (c .port .selected) .head)
+        (tapeAt (effectOf c l e .lent) (c .port .selected))
     go NoEvent k h = unchanged
     go Reset k h = unchanged
     go (Named j x) k h = unchanged
-    go (Own a) k h = rw put-same (Leaves.does-leaf (stagedIn c a l .staging) (seatOf c l) a _ (own-does c l a k h) .change (staged-sound c l a k .whole))
+    go (Own a) k h =
+        rw put-same (Leaves.does-leaf (stagedIn c a l .staging) (seatOf c l) a _ (own-does c l a k h) .change (staged-sound c l a k .whole))
 
 block-room : (t g : List ℕ) (h : ℕ) → length g ≡ 512 → h + 513 ≤ length t → h + length (blockRecord g) ≤ length t
 block-room t g h e r = rw e (omega (arith, r))

@@ -26,7 +26,8 @@ and-false true = refl
 and-false false = refl
 
 -- an order that is no SELECT
-plain : (s : Seat) (o : Order) (m : Acted) → ((d : ℕ) → isSelectOf d o ≡ false) → m .moved .port .selected ≡ s .port .selected → m .moved .port .online ≡ s .port .online → Ported s o m
+plain : (s : Seat) (o : Order) (m : Acted) → ((d : ℕ) → isSelectOf d o ≡ false) → m .moved .port .selected ≡ s .port .selected
+    → m .moved .port .online ≡ s .port .online → Ported s o m
 plain s o m f p q = kept p q (λ d. rw (f d) (and-false (accepted (pick (m .moved .raised) Raised Taken))))
 
 ordered-ported : (s : Seat) (o : Order) → Ported s o (ordered s o)
@@ -49,23 +50,27 @@ commanded-ported s o Empty = kept refl refl (λ d. refl)
 commanded-ported s o Plugged = kept refl refl (λ d. refl)
 commanded-ported s o Full = kept refl refl (λ d. refl)
 
-pub give-ported : (g : List ℕ) (s : Seat) (b : ℕ) (m : Acted) → Acts.Does g s (Give b) m → (m .moved .port .selected ≡ s .port .selected) × (m .moved .port .online ≡ s .port .online)
+pub give-ported : (g : List ℕ) (s : Seat) (b : ℕ) (m : Acted) → Acts.Does g s (Give b) m → (m .moved .port .selected ≡ s .port .selected)
+    × (m .moved .port .online ≡ s .port .online)
 give-ported g s b m (Acts.stages x n l w) = (refl, refl)
 give-ported g s b m (Acts.records-block x w r) = (refl, refl)
 give-ported g s b m (Acts.records-last x w r) = (refl, refl)
 give-ported g s b m (Acts.drops-block x) = (refl, refl)
 
-pub take-ported : (g : List ℕ) (s : Seat) (m : Acted) → Acts.Does g s Take m → (m .moved .port .selected ≡ s .port .selected) × (m .moved .port .online ≡ s .port .online)
+pub take-ported : (g : List ℕ) (s : Seat) (m : Acted) → Acts.Does g s Take m → (m .moved .port .selected ≡ s .port .selected)
+    × (m .moved .port .online ≡ s .port .online)
 take-ported g s m (Acts.hands-octet k e) = (refl, refl)
 take-ported g s m (Acts.hands-byte n l w e) = (refl, refl)
 take-ported g s m (Acts.hands-last q w e) = (refl, refl)
 take-ported g s m (Acts.meets-edge r) = (refl, refl)
 take-ported g s m Acts.finds-no-block = (refl, refl)
 
-pub online-ported : (g : List ℕ) (s : Seat) (m : Acted) → Acts.Does g s Online m → (m .moved .port .selected ≡ s .port .selected) × (m .moved .port .online ≡ true)
+pub online-ported : (g : List ℕ) (s : Seat) (m : Acted) → Acts.Does g s Online m → (m .moved .port .selected ≡ s .port .selected)
+    × (m .moved .port .online ≡ true)
 online-ported g s m Acts.goes-up = (refl, refl)
 
-pub offline-ported : (g : List ℕ) (s : Seat) (m : Acted) → Acts.Does g s Offline m → (m .moved .port .selected ≡ s .port .selected) × (m .moved .port .online ≡ false)
+pub offline-ported : (g : List ℕ) (s : Seat) (m : Acted) → Acts.Does g s Offline m → (m .moved .port .selected ≡ s .port .selected)
+    × (m .moved .port .online ≡ false)
 offline-ported g s m Acts.goes-down = (refl, refl)
 offline-ported g s m Acts.goes-idle = (refl, refl)
 offline-ported g s m Acts.goes-home = (refl, refl)

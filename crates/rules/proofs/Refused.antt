@@ -33,7 +33,8 @@ done-accepts : (b : Bool) {A : Type 0} → rowOf (pick b Raised Taken) .refuses 
 done-accepts b h = absurd (false≢true (sym (taken-not-refused b) ∙ h))
 
 -- every effect is `done`, whatever the event
-pub effect-done : (P : Stepped → Type 0) → ((r g : Bool) (b : ℕ) (c : Core) (l : Lent) → P (done r g b c l)) → (c : Core) (l : Lent) (e : Event) → P (effectOf c l e)
+pub effect-done : (P : Stepped → Type 0) → ((r g : Bool) (b : ℕ) (c : Core) (l : Lent) → P (done r g b c l)) → (c : Core) (l : Lent) (e : Event)
+    → P (effectOf c l e)
 effect-done P f c l NoEvent = f false false 0 _ _
 effect-done P f c l Reset = f true false 0 _ _
 effect-done P f c l (Named i w) = f _ false 0 _ _
@@ -73,7 +74,8 @@ pub lines-of-the-record : LinesOfTheRecord
 unfolding pick
 lines-of-the-record c l event =
     step-by (λ s. (s .turn .answer ≡ Impossible → ⊥) → s .turn .lines ≡ linesOf (s .turn .core)) c l event (λ a r n. rw (up-row a n))
-    (λ p q r. effect-done (λ s. (s .turn .answer ≡ Impossible → ⊥) → s .turn .lines ≡ linesOf (s .turn .core)) (λ r g b d m n. refl) c l (eventOf event))
+    (λ p q r. effect-done (λ s. (s .turn .answer ≡ Impossible → ⊥) → s .turn .lines ≡ linesOf (s .turn .core)) (λ r g b d m n. refl) c l
+    (eventOf event))
 
 -- ---- the byte
 

@@ -22,7 +22,9 @@ use Rattle.rules.specs.Promises.Samples.{Samples}
 use Rattle.rules.specs.Promises.Runs.{StarredRunsHold, RunsToCheckHold}
 
 all-hold : StarredRunsHold × RunsToCheckHold × Samples
-unfolding pick ofKind foundAt recorded walk trail counted oneOf putAt putLast bareEvent bodiedEvent eventOf possibleDrive possiblePhase possible short refusalOf linesOf orderOf illegal faultBy checked withTop octet0 octet1 octetsOf faultOf stagedByte afterBlock stored handed octetTaken dropped stepBy stepOf after turnOf reaches
+unfolding pick ofKind foundAt recorded walk trail counted oneOf putAt putLast bareEvent bodiedEvent eventOf possibleDrive possiblePhase possible
+    short refusalOf linesOf orderOf illegal faultBy checked withTop octet0 octet1 octetsOf faultOf stagedByte afterBlock stored handed octetTaken
+    dropped stepBy stepOf after turnOf reaches
 all-hold = (refl, refl, record { plain = refl; busy = refl; busyTape = refl; shorter = refl; shorterTape = refl })
 
 pub starred-runs-hold : StarredRunsHold

@@ -29,7 +29,17 @@ use Rattle.rules.proofs.Sound.{Fit, Sound}
 
 -- What stands in the place of the other three drives, and a number that is not d.
 abbrev pub quiet : Drive
-quiet = record { loaded = false; protected = false; head = 0; mode = Idle; exception = false; latched = noBits; errors = noErrors; underruns = noUnderruns }
+quiet =
+    record {
+      loaded = false;
+      protected = false;
+      head = 0;
+      mode = Idle;
+      exception = false;
+      latched = noBits;
+      errors = noErrors;
+      underruns = noUnderruns;
+    }
 
 unfoldable pub elsewhere : ℕ → ℕ
 elsewhere d = pick (eqb d 0) 1 0
@@ -122,22 +132,27 @@ here-same d p = go (eqb (p .selected) d) refl
     go false e = ap (λ (q : Port). eqb (q .selected) d) (seen-away d p e) ∙ elsewhere-not d
 
 -- two looks are equal where what they show is
-pub looks-alike : (d : ℕ) (p p′ : Port) (g g′ : List ℕ) (x x′ : Drive) (t t′ : List ℕ) → seenBy d (herePort p) ≡ seenBy d (herePort p′) → stagingBy d p g ≡ stagingBy d p′ g′ → x ≡ x′ → t ≡ t′
+pub looks-alike : (d : ℕ) (p p′ : Port) (g g′ : List ℕ) (x x′ : Drive) (t t′ : List ℕ) → seenBy d (herePort p) ≡ seenBy d (herePort p′)
+    → stagingBy d p g ≡ stagingBy d p′ g′ → x ≡ x′ → t ≡ t′
     → looks d p g x t ≡ looks d p′ g′ x′ t′
 looks-alike d p p′ g g′ x x′ t t′ q h a b = rw (q, h, a, b)
 
 -- both away: only the level is seen
-pub away-alike : (d : ℕ) (p p′ : Port) (g g′ : List ℕ) (x x′ : Drive) (t t′ : List ℕ) → eqb (p .selected) d ≡ false → eqb (p′ .selected) d ≡ false → p .online ≡ p′ .online → x ≡ x′ → t ≡ t′
+pub away-alike : (d : ℕ) (p p′ : Port) (g g′ : List ℕ) (x x′ : Drive) (t t′ : List ℕ) → eqb (p .selected) d ≡ false → eqb (p′ .selected) d ≡ false
+    → p .online ≡ p′ .online → x ≡ x′ → t ≡ t′
     → looks d p g x t ≡ looks d p′ g′ x′ t′
 away-alike d p p′ g g′ x x′ t t′ e e′ o a b =
-    looks-alike d p p′ g g′ x x′ t t′ (seen-away d p e ∙ ap (awayPort d) o ∙ sym (seen-away d p′ e′)) (staging-away d p g e ∙ sym (staging-away d p′ g′ e′)) a b
+    looks-alike d p p′ g g′ x x′ t t′ (seen-away d p e ∙ ap (awayPort d) o ∙ sym (seen-away d p′ e′)) (staging-away d p g e
+    ∙ sym (staging-away d p′ g′ e′)) a b
 
 -- both here: the port and the block are seen
-pub here-alike : (d : ℕ) (p p′ : Port) (g g′ : List ℕ) (x x′ : Drive) (t t′ : List ℕ) → herePort p ≡ herePort p′ → stagingIn (p .phase) g ≡ stagingIn (p′ .phase) g′ → x ≡ x′ → t ≡ t′
+pub here-alike : (d : ℕ) (p p′ : Port) (g g′ : List ℕ) (x x′ : Drive) (t t′ : List ℕ) → herePort p ≡ herePort p′
+    → stagingIn (p .phase) g ≡ stagingIn (p′ .phase) g′ → x ≡ x′ → t ≡ t′
     → looks d p g x t ≡ looks d p′ g′ x′ t′
 unfolding stagingBy
 here-alike d p p′ g g′ x x′ t t′ q h a b =
-    looks-alike d p p′ g g′ x x′ t t′ (ap (seenBy d) q) (ap₂ (λ (n : ℕ) (l : List ℕ). pick (eqb n d) l blank) (ap (λ (z : Port). z .selected) q) h) a b
+    looks-alike d p p′ g g′ x x′ t t′ (ap (seenBy d) q)
+    (ap₂ (λ (n : ℕ) (l : List ℕ). pick (eqb n d) l blank) (ap (λ (z : Port). z .selected) q) h) a b
 
 -- ---- a look is a sound world, and looking twice shows the same
 
@@ -164,7 +179,8 @@ shown-take n g l w = take-at (take n g) (replicate (512 - n) 0) n (length-take-l
 
 shown-twice : (n : ℕ) (g : List ℕ) → n ≤ 511 → length g ≡ 512 → shownTo n (shownTo n g) ≡ shownTo n g
 unfolding shownTo
-shown-twice n g l w = ap (λ (x : List ℕ). x ++ replicate (512 - n) 0) (take-at (take n g) (replicate (512 - n) 0) n (length-take-le n g (omega arith)))
+shown-twice n g l w =
+    ap (λ (x : List ℕ). x ++ replicate (512 - n) 0) (take-at (take n g) (replicate (512 - n) 0) n (length-take-le n g (omega arith)))
 
 pub staging-length : (ph : Phase) (m : Mode) (g : List ℕ) → possiblePhase ph m ≡ true → length g ≡ 512 → length (stagingIn ph g) ≡ 512
 staging-length Rest m g h w = length-replicate {A = ℕ} 512 0
@@ -185,7 +201,8 @@ octets-twice (Giving n) o = refl
 octets-twice (Status k) o = refl
 
 port-twice : (p : Port) → herePort (herePort p) ≡ herePort p
-port-twice p = ap (λ (o : List ℕ). record { selected = p .selected; online = p .online; phase = p .phase; octets = o }) (octets-twice (p .phase) (p .octets))
+port-twice p =
+    ap (λ (o : List ℕ). record { selected = p .selected; online = p .online; phase = p .phase; octets = o }) (octets-twice (p .phase) (p .octets))
 
 module _ (d : ℕ) (w : World) (k : Sound (w .core) (w .lent)) where
   p : Port
@@ -201,7 +218,8 @@ module _ (d : ℕ) (w : World) (k : Sound (w .core) (w .lent)) where
       go true e =
           here-alike d (look d w .core .port) (w .core .port) (look d w .lent .staging) (w .lent .staging) _ _ _ _
           (ap herePort (seen-here d (w .core .port) e) ∙ port-twice (w .core .port))
-          (ap₂ (λ (q : Port) (g : List ℕ). stagingIn (q .phase) g) (seen-here d (w .core .port) e) (staging-here d (w .core .port) (w .lent .staging) e) ∙ staging-twice (w .core .port .phase) _ (w .lent .staging) (k .phase) (k .whole))
+          (ap₂ (λ (q : Port) (g : List ℕ). stagingIn (q .phase) g) (seen-here d (w .core .port) e)
+          (staging-here d (w .core .port) (w .lent .staging) e) ∙ staging-twice (w .core .port .phase) _ (w .lent .staging) (k .phase) (k .whole))
           (look-drive d w) (look-tape d w)
       go false e =
           away-alike d (look d w .core .port) (w .core .port) (look d w .lent .staging) (w .lent .staging) _ _ _ _
@@ -228,7 +246,9 @@ module _ (d : ℕ) (w : World) (k : Sound (w .core) (w .lent)) where
             phase = rw (seen-here d (w .core .port) e, n, put-same) (rw n at (k .phase));
             fit = fits;
             near = nears;
-            whole = rw (staging-here d (w .core .port) (w .lent .staging) e) (staging-length (w .core .port .phase) _ (w .lent .staging) (k .phase) (k .whole));
+            whole =
+                rw (staging-here d (w .core .port) (w .lent .staging) e)
+                (staging-length (w .core .port .phase) _ (w .lent .staging) (k .phase) (k .whole));
           }
       go false e =
           record {

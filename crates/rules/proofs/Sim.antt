@@ -75,7 +75,8 @@ lines-here : (d : ℕ) (x : World) → eqb (x .core .port .selected) d ≡ true 
 unfolding linesOf
 lines-here d x e =
     let n : x .core .port .selected ≡ d = eqb-true (x .core .port .selected) d e in
-    ap (λ (y : Drive). linesAt (x .core .port .phase) y) (ap (λ (j : ℕ). driveAt (x .core) j) n ∙ sym (put-there _ d (driveAt (x .core) d) quiet quiet quiet quiet (sym n)))
+    ap (λ (y : Drive). linesAt (x .core .port .phase) y) (ap (λ (j : ℕ). driveAt (x .core) j) n
+    ∙ sym (put-there _ d (driveAt (x .core) d) quiet quiet quiet quiet (sym n)))
     ∙ sym (ap (λ (q : Port). linesAt (q .phase) (driveAt (look d x .core) (q .selected))) (seen-here d (x .core .port) e))
 
 shown-look : (d : ℕ) (x : World) (n : Lines) (g : Bool) (b : ℕ) → n ≡ linesOf (x .core)
@@ -91,7 +92,8 @@ shown-look d x n g b e = rw (here-same d (x .core .port)) (go (eqb (x .core .por
 record Lit (s : Stepped) : Type 0 where
   is : s .turn .lines ≡ linesOf (s .turn .core)
 
-shown-same : (d : ℕ) (s s′ : Stepped) → Lit s → Lit s′ → s .turn .given ≡ s′ .turn .given → s .turn .byte ≡ s′ .turn .byte → seenIn d s ≡ seenIn d s′ → shownIn d s ≡ shownIn d s′
+shown-same : (d : ℕ) (s s′ : Stepped) → Lit s → Lit s′ → s .turn .given ≡ s′ .turn .given → s .turn .byte ≡ s′ .turn .byte
+    → seenIn d s ≡ seenIn d s′ → shownIn d s ≡ shownIn d s′
 shown-same d s s′ a b p q v =
     shown-look d (world (s .turn .core) (s .lent)) (s .turn .lines) (s .turn .given) (s .turn .byte) (a .is)
     ∙ ap (λ (x : World). showsIf (eqb (x .core .port .selected) d) (linesOf (x .core)) (s .turn .given) (s .turn .byte)) v
@@ -102,7 +104,8 @@ done-lit : (r g : Bool) (b : ℕ) (c : Core) (l : Lent) → Lit (done r g b c l)
 done-lit r g b c l = record { is = refl }
 
 -- where the look of both, the answer and the byte are the same
-sim-of : (d : ℕ) (e : Event) (c : Core) (l : Lent) (s s′ : Stepped) → Lit s → Lit s′ → seenIn d s ≡ seenIn d s′ → s .turn .answer ≡ s′ .turn .answer → s .turn .given ≡ s′ .turn .given
+sim-of : (d : ℕ) (e : Event) (c : Core) (l : Lent) (s s′ : Stepped) → Lit s → Lit s′ → seenIn d s ≡ seenIn d s′
+    → s .turn .answer ≡ s′ .turn .answer → s .turn .given ≡ s′ .turn .given
     → s .turn .byte ≡ s′ .turn .byte → Sim d e c (look d (world c l) .core) s s′
 sim-of d e c l s s′ a b v r g n =
     record {
@@ -130,9 +133,11 @@ part-staging true (Giving n) m g h w = refl
 part-staging true (Status k) m g h w = refl
 part-staging false ph m g h w = sym (staging-twice ph m g h w)
 
-part-port : (t : Bool) (p : Port) → herePort (atPhase (pick t (partDropped (p .phase)) (p .phase)) p) ≡ herePort (atPhase (pick t (partDropped (p .phase)) (p .phase)) (herePort p))
+part-port : (t : Bool) (p : Port) → herePort (atPhase (pick t (partDropped (p .phase)) (p .phase)) p) ≡ herePort
+    (atPhase (pick t (partDropped (p .phase)) (p .phase)) (herePort p))
 part-port t p =
-    ap (λ (o : List ℕ). record { selected = p .selected; online = p .online; phase = pick t (partDropped (p .phase)) (p .phase); octets = o }) (part-octets t (p .phase) (p .octets))
+    ap (λ (o : List ℕ). record { selected = p .selected; online = p .online; phase = pick t (partDropped (p .phase)) (p .phase); octets = o })
+    (part-octets t (p .phase) (p .octets))
 
 -- at Rest nothing of the block is seen
 rest-staging : (d : ℕ) (p : Port) (g : List ℕ) → p .phase ≡ Rest → stagingBy d p g ≡ blank
@@ -266,7 +271,8 @@ module _ (c : Core) (l : Lent) (k : Sound c l) (d : ℕ) (d3 : d ≤ 3) where
       after : Port → Port
       after q = atPhase (phaseAfter x (eqb d (q .selected)) (q .phase)) q
 
-      drives : driveAt (putDrive c (after (c .port)) d (befallen x (driveAt c d))) d ≡ driveAt (putDrive cv (after (cv .port)) d (befallen x (driveAt cv d))) d
+      drives : driveAt (putDrive c (after (c .port)) d (befallen x (driveAt c d))) d ≡ driveAt
+          (putDrive cv (after (cv .port)) d (befallen x (driveAt cv d))) d
       drives =
           put-there d d (befallen x (driveAt c d)) (c .drive0) (c .drive1) (c .drive2) (c .drive3) refl
           ∙ ap (befallen x) (sym (look-drive d (world c l)))
@@ -277,20 +283,25 @@ module _ (c : Core) (l : Lent) (k : Sound c l) (d : ℕ) (d3 : d ≤ 3) where
           here-alike d (after (c .port)) (after (cv .port)) (l .staging) (lv .staging) _ _ _ _
           (part-port (isOut x && eqb d (c .port .selected)) (c .port) ∙ ap (λ (q : Port). herePort (after q)) (sym (seen-here d (c .port) e)))
           (part-staging (isOut x && eqb d (c .port .selected)) (c .port .phase) _ (l .staging) (k .phase) (k .whole)
-          ∙ ap₂ (λ (q : Port) (g : List ℕ). stagingIn (after q .phase) g) (sym (seen-here d (c .port) e)) (sym (staging-here d (c .port) (l .staging) e)))
+          ∙ ap₂ (λ (q : Port) (g : List ℕ). stagingIn (after q .phase) g) (sym (seen-here d (c .port) e))
+          (sym (staging-here d (c .port) (l .staging) e)))
           drives (sym (look-tape d (world c l)))
       go false e =
-          away-alike d (after (c .port)) (after (cv .port)) (l .staging) (lv .staging) _ _ _ _ e (here-same d (c .port) ∙ e) (sym (seen-level d (c .port))) drives (sym (look-tape d (world c l)))
+          away-alike d (after (c .port)) (after (cv .port)) (l .staging) (lv .staging) _ _ _ _ e (here-same d (c .port)
+          ∙ e) (sym (seen-level d (c .port))) drives (sym (look-tape d (world c l)))
 
-  pub named-sim : (x : What) → Sim d (Named d x) c cv (settled c l (Named d x) (refusalIn c (Named d x))) (settled cv lv (Named d x) (refusalIn cv (Named d x)))
+  pub named-sim : (x : What) → Sim d (Named d x) c cv (settled c l (Named d x) (refusalIn c (Named d x)))
+      (settled cv lv (Named d x) (refusalIn cv (Named d x)))
   unfolding pick
   named-sim x =
-      subst (λ (y : Drive). Sim d (Named d x) c cv (settled c l (Named d x) (refusalIn c (Named d x))) (settled cv lv (Named d x) (slotAnswer (y .loaded) x)))
+      subst (λ (y : Drive). Sim d (Named d x) c cv (settled c l (Named d x) (refusalIn c (Named d x)))
+      (settled cv lv (Named d x) (slotAnswer (y .loaded) x)))
       (sym (look-drive d (world c l))) (go _ (slotted (driveAt c d .loaded) x))
     where
       go : (a : Answer) → Slotted a → Sim d (Named d x) c cv (settled c l (Named d x) a) (settled cv lv (Named d x) a)
       go a lets =
-          sim-of d (Named d x) c l (effectOf c l (Named d x)) (effectOf cv lv (Named d x)) (record { is = refl }) (record { is = refl }) (named-view x) refl refl refl
+          sim-of d (Named d x) c l (effectOf c l (Named d x)) (effectOf cv lv (Named d x)) (record { is = refl }) (record { is = refl })
+          (named-view x) refl refl refl
       go a (bars stops calm) = rw (stops) (refused-sim (Named d x) a calm)
 
   -- ---- an act of drive d itself
@@ -307,16 +318,19 @@ module _ (c : Core) (l : Lent) (k : Sound c l) (d : ℕ) (d3 : d ≤ 3) where
         (put-there (c .port .selected) d (driveAt c d) quiet quiet quiet quiet (sym here) ∙ ap (driveAt c) (sym here))
         (put-there (c .port .selected) d (tapeAt l d) [] [] [] [] (sym here) ∙ ap (tapeAt l) (sym here))
 
-    step-look : (a : Act) → inStepAt (cv .port .phase) (driveAt cv (cv .port .selected)) a ≡ inStepAt (c .port .phase) (driveAt c (c .port .selected)) a
+    step-look : (a : Act) → inStepAt (cv .port .phase) (driveAt cv (cv .port .selected)) a ≡ inStepAt (c .port .phase)
+        (driveAt c (c .port .selected)) a
     step-look a = ap (λ (s : Seat). inStepAt (s .port .phase) (s .drive) a) seat-look
 
     -- the act as it is done there
-    act-look : (a : Act) → act (stagedIn cv a lv .staging) (seatOf cv lv) a ≡ act (staged (c .port .phase) a (stagingIn (c .port .phase) (l .staging))) (Agree.seen (seatOf c l)) a
+    act-look : (a : Act) → act (stagedIn cv a lv .staging) (seatOf cv lv) a ≡ act
+        (staged (c .port .phase) a (stagingIn (c .port .phase) (l .staging))) (Agree.seen (seatOf c l)) a
     act-look a =
         ap₂ (λ (g : List ℕ) (s : Seat). act g s a)
         (ap₂ (λ (q : Port) (g : List ℕ). staged (q .phase) a g) (seen-here d (c .port) e) (staging-here d (c .port) (l .staging) e)) seat-look
 
-    own-here : (a : Act) → inStepAt (c .port .phase) (driveAt c (c .port .selected)) a ≡ true → Sim d (Own a) c cv (effectOf c l (Own a)) (effectOf cv lv (Own a))
+    own-here : (a : Act) → inStepAt (c .port .phase) (driveAt c (c .port .selected)) a ≡ true
+        → Sim d (Own a) c cv (effectOf c l (Own a)) (effectOf cv lv (Own a))
     own-here a h =
         sim-of d (Own a) c l (effectOf c l (Own a)) (effectOf cv lv (Own a)) (record { is = refl }) (record { is = refl }) view
         (ap (λ (r : Bool). pick r Raised Taken) (r .raised ∙ ap (λ (x : Acted). x .moved .raised) m′))
@@ -345,23 +359,29 @@ module _ (c : Core) (l : Lent) (k : Sound c l) (d : ℕ) (d3 : d ≤ 3) where
             (ap₂ (λ (q : Port) (g : List ℕ). staged (q .phase) a g) (sym (seen-here d (c .port) e)) (sym (staging-here d (c .port) (l .staging) e))))
             (put-there d (c .port .selected) (m .moved .drive) (c .drive0) (c .drive1) (c .drive2) (c .drive3) here
             ∙ (r .drive ∙ ap (λ (x : Acted). x .moved .drive) m′)
-            ∙ sym (put-there d (cv .port .selected) (act (stagedIn cv a lv .staging) (seatOf cv lv) a .moved .drive) (cv .drive0) (cv .drive1) (cv .drive2) (cv .drive3) there))
+            ∙ sym (put-there d (cv .port .selected) (act (stagedIn cv a lv .staging) (seatOf cv lv) a .moved .drive) (cv .drive0) (cv .drive1)
+            (cv .drive2) (cv .drive3) there))
             (put-there d (c .port .selected) (m .tape) (l .tape0) (l .tape1) (l .tape2) (l .tape3) here
             ∙ (r .tape ∙ ap (λ (x : Acted). x .tape) m′)
-            ∙ sym (put-there d (cv .port .selected) (act (stagedIn cv a lv .staging) (seatOf cv lv) a .tape) (lv .tape0) (lv .tape1) (lv .tape2) (lv .tape3) there))
+            ∙ sym (put-there d (cv .port .selected) (act (stagedIn cv a lv .staging) (seatOf cv lv) a .tape) (lv .tape0) (lv .tape1) (lv .tape2)
+            (lv .tape3) there))
 
     -- every event while d is selected, but 07 to 0A for another drive
-    pub sim-here : (r : Change) (v : Event) (x : Answer) → reachesBy r d (c .port .selected) (c .port .online) x v ≡ true → Sim d v c cv (settled c l v (refusalIn c v)) (settled cv lv v (refusalIn cv v))
+    pub sim-here : (r : Change) (v : Event) (x : Answer) → reachesBy r d (c .port .selected) (c .port .online) x v ≡ true
+        → Sim d v c cv (settled c l v (refusalIn c v)) (settled cv lv v (refusalIn cv v))
     unfolding pick
     sim-here r NoEvent x h = refused-sim NoEvent Malformed refl
     sim-here r Reset x h = reset-sim
     sim-here r (Named i y) x h =
-        subst (λ (j : ℕ). Sim d (Named j y) c cv (settled c l (Named j y) (refusalIn c (Named j y))) (settled cv lv (Named j y) (refusalIn cv (Named j y)))) (sym (eqb-true i d h)) (named-sim y)
+        subst (λ (j : ℕ). Sim d (Named j y) c cv (settled c l (Named j y) (refusalIn c (Named j y)))
+        (settled cv lv (Named j y) (refusalIn cv (Named j y)))) (sym (eqb-true i d h)) (named-sim y)
     sim-here r (Own a) x h =
-        subst (λ (b : Bool). Sim d (Own a) c cv (settled c l (Own a) (refusalIn c (Own a))) (settled cv lv (Own a) (pick b Taken OutOfStep))) (sym (step-look a))
+        subst (λ (b : Bool). Sim d (Own a) c cv (settled c l (Own a) (refusalIn c (Own a))) (settled cv lv (Own a) (pick b Taken OutOfStep)))
+        (sym (step-look a))
         (go (inStepAt (c .port .phase) (driveAt c (c .port .selected)) a) refl)
       where
-        go : (b : Bool) → inStepAt (c .port .phase) (driveAt c (c .port .selected)) a ≡ b → Sim d (Own a) c cv (settled c l (Own a) (pick b Taken OutOfStep)) (settled cv lv (Own a) (pick b Taken OutOfStep))
+        go : (b : Bool) → inStepAt (c .port .phase) (driveAt c (c .port .selected)) a ≡ b
+            → Sim d (Own a) c cv (settled c l (Own a) (pick b Taken OutOfStep)) (settled cv lv (Own a) (pick b Taken OutOfStep))
         go true q = own-here a q
         go false q = refused-sim (Own a) OutOfStep refl
 
@@ -390,7 +410,8 @@ module _ (c : Core) (l : Lent) (k : Sound c l) (d : ℕ) (d3 : d ≤ 3) where
     ready a h = rw (ap (λ (s : Seat). inStepAt (s .port .phase) (s .drive) a) seat-away, in-rest a h)
 
     -- the look is away in both, at the same level
-    away-view : (g g′ : List ℕ) (m m′ : Acted) → eqb (m .moved .port .selected) d ≡ false → eqb (m′ .moved .port .selected) d ≡ false → m .moved .port .online ≡ m′ .moved .port .online
+    away-view : (g g′ : List ℕ) (m m′ : Acted) → eqb (m .moved .port .selected) d ≡ false → eqb (m′ .moved .port .selected) d ≡ false
+        → m .moved .port .online ≡ m′ .moved .port .online
         → seenIn d (landed c (putStaging l g) m) ≡ seenIn d (landed cv (putStaging lv g′) m′)
     away-view g g′ m m′ x x′ o =
         away-alike d (m .moved .port) (m′ .moved .port) g g′ _ _ _ _ x x′ o
@@ -402,7 +423,8 @@ module _ (c : Core) (l : Lent) (k : Sound c l) (d : ℕ) (d3 : d ≤ 3) where
         ∙ sym (put-away d (cv .port .selected) (m′ .tape) (lv .tape0) (lv .tape1) (lv .tape2) (lv .tape3) d3 (kv .sel) far′))
 
     level-sim : (a : Act) → isLevel a ≡ true → (o : Bool) (m m′ : Acted)
-        → (m .moved .port .selected ≡ c .port .selected) × (m .moved .port .online ≡ o) → (m′ .moved .port .selected ≡ cv .port .selected) × (m′ .moved .port .online ≡ o)
+        → (m .moved .port .selected ≡ c .port .selected) × (m .moved .port .online ≡ o) → (m′ .moved .port .selected ≡ cv .port .selected)
+        × (m′ .moved .port .online ≡ o)
         → Sim d (Own a) c cv (landed c (stagedIn c a l) m) (landed cv (stagedIn cv a lv) m′)
     unfolding pick
     level-sim a h o m m′ (p, q) (p′, q′) =
@@ -427,18 +449,22 @@ module _ (c : Core) (l : Lent) (k : Sound c l) (d : ℕ) (d3 : d ≤ 3) where
         unshown s z = rw z
 
     -- the act of the quiet drive
-    select-quiet : (c0 : ℕ) → orderOf c0 ≡ Select d → act (stagedIn cv (Command c0) lv .staging) (seatOf cv lv) (Command c0) ≡ leaves false (atDrive d (awayPort d (c .port .online))) quiet []
+    select-quiet : (c0 : ℕ) → orderOf c0 ≡ Select d → act (stagedIn cv (Command c0) lv .staging) (seatOf cv lv) (Command c0) ≡ leaves false
+        (atDrive d (awayPort d (c .port .online))) quiet []
     unfolding faultOf faultBy illegal pick
     select-quiet c0 q =
         ap (λ (s : Seat). commanded s (orderOf c0) (faultOf s (orderOf c0))) seat-away
         ∙ ap (λ (o : Order). commanded (seat (awayPort d (c .port .online)) quiet []) o (faultOf (seat (awayPort d (c .port .online)) quiet []) o)) q
 
-    select-sim : (c0 : ℕ) → orderOf c0 ≡ Select d → (m : Acted) → m ≡ leaves false (atDrive d (c .port)) (chosen (driveAt c (c .port .selected))) (tapeAt l (c .port .selected))
+    select-sim : (c0 : ℕ) → orderOf c0 ≡ Select d → (m : Acted) → m ≡ leaves false (atDrive d (c .port)) (chosen (driveAt c (c .port .selected)))
+        (tapeAt l (c .port .selected))
         → Sim d (Own (Command c0)) c cv (landed c (stagedIn c (Command c0) l) m) (effectOf cv lv (Own (Command c0)))
     select-sim c0 q m z =
         subst (λ (x : Acted). Sim d (Own (Command c0)) c cv (landed c (stagedIn c (Command c0) l) x) (effectOf cv lv (Own (Command c0)))) (sym z)
-        (subst (λ (y : Acted). Sim d (Own (Command c0)) c cv (landed c (stagedIn c (Command c0) l) real) (landed cv (stagedIn cv (Command c0) lv) y)) (sym (select-quiet c0 q))
-        (sim-of d (Own (Command c0)) c l (landed c (stagedIn c (Command c0) l) real) (landed cv (stagedIn cv (Command c0) lv) seen) (record { is = refl }) (record { is = refl }) view refl refl refl))
+        (subst (λ (y : Acted). Sim d (Own (Command c0)) c cv (landed c (stagedIn c (Command c0) l) real)
+        (landed cv (stagedIn cv (Command c0) lv) y)) (sym (select-quiet c0 q))
+        (sim-of d (Own (Command c0)) c l (landed c (stagedIn c (Command c0) l) real) (landed cv (stagedIn cv (Command c0) lv) seen)
+        (record { is = refl }) (record { is = refl }) view refl refl refl))
       where
         real : Acted
         real = leaves false (atDrive d (c .port)) (chosen (driveAt c (c .port .selected))) (tapeAt l (c .port .selected))
@@ -458,7 +484,8 @@ module _ (c : Core) (l : Lent) (k : Sound c l) (d : ℕ) (d3 : d ≤ 3) where
 
     -- an act of the selected drive that reaches d
     own-away : (r : Change) (a : Act) → inStepAt (c .port .phase) (driveAt c (c .port .selected)) a ≡ true
-        → reason r d (c .port .online) a (effectOf c l (Own a) .turn .answer) ≡ true → Sim d (Own a) c cv (effectOf c l (Own a)) (effectOf cv lv (Own a))
+        → reason r d (c .port .online) a (effectOf c l (Own a) .turn .answer) ≡ true
+        → Sim d (Own a) c cv (effectOf c l (Own a)) (effectOf cv lv (Own a))
     own-away r (Command c0) q h = by-port (Ports.commanded-ported (seatOf c l) (orderOf c0) (faultOf (seatOf c l) (orderOf c0)))
       where
         m : Acted
@@ -467,43 +494,53 @@ module _ (c : Core) (l : Lent) (k : Sound c l) (d : ℕ) (d3 : d ≤ 3) where
         chose : (accepted (pick (m .moved .raised) Raised Taken) && isSelectOf d (orderOf c0)) ≡ true
         chose = second (answered (pick (m .moved .raised) Raised Taken)) _ h
 
-        by-port : Ports.Ported (seatOf c l) (orderOf c0) m → Sim d (Own (Command c0)) c cv (landed c (stagedIn c (Command c0) l) m) (effectOf cv lv (Own (Command c0)))
+        by-port : Ports.Ported (seatOf c l) (orderOf c0) m → Sim d (Own (Command c0)) c cv (landed c (stagedIn c (Command c0) l) m)
+            (effectOf cv lv (Own (Command c0)))
         by-port (Ports.kept p o n) = absurd (false≢true (sym (n d) ∙ chose))
         by-port (Ports.turned j p z) =
             let i : j ≡ d = eqb-true j d (rw p at (both (accepted (pick (m .moved .raised) Raised Taken)) (isSelectOf d (orderOf c0)) chose .1)) in
-            select-sim c0 (p ∙ ap Select i) m (z ∙ ap (λ (n : ℕ). leaves false (atDrive n (c .port)) (chosen (driveAt c (c .port .selected))) (tapeAt l (c .port .selected))) i)
+            select-sim c0 (p ∙ ap Select i) m (z
+            ∙ ap (λ (n : ℕ). leaves false (atDrive n (c .port)) (chosen (driveAt c (c .port .selected))) (tapeAt l (c .port .selected))) i)
     own-away r (Give b) q h = absurd (not-by r d (c .port .online) (Give b) refl (effectOf c l (Own (Give b)) .turn .answer) h)
     own-away r Take q h = absurd (not-by r d (c .port .online) Take refl (effectOf c l (Own Take) .turn .answer) h)
     own-away r Online q h =
-        level-sim Online refl true _ _ (Ports.online-ported _ (seatOf c l) _ (own-does c l Online k (taken-step c Online q))) (Ports.online-ported _ (seatOf cv lv) _ (own-does cv lv Online kv (ready Online refl)))
+        level-sim Online refl true _ _ (Ports.online-ported _ (seatOf c l) _ (own-does c l Online k (taken-step c Online q)))
+        (Ports.online-ported _ (seatOf cv lv) _ (own-does cv lv Online kv (ready Online refl)))
     own-away r Offline q h =
-        level-sim Offline refl false _ _ (Ports.offline-ported _ (seatOf c l) _ (own-does c l Offline k (taken-step c Offline q))) (Ports.offline-ported _ (seatOf cv lv) _ (own-does cv lv Offline kv (ready Offline refl)))
+        level-sim Offline refl false _ _ (Ports.offline-ported _ (seatOf c l) _ (own-does c l Offline k (taken-step c Offline q)))
+        (Ports.offline-ported _ (seatOf cv lv) _ (own-does cv lv Offline kv (ready Offline refl)))
 
     -- RESET, 07 to 0A that name d, and the acts above
-    pub sim-away : (r : Change) (v : Event) → reachesBy r d (c .port .selected) (c .port .online) (settled c l v (refusalIn c v) .turn .answer) v ≡ true
+    pub sim-away : (r : Change) (v : Event) → reachesBy r d (c .port .selected) (c .port .online) (settled c l v (refusalIn c v) .turn .answer)
+        v ≡ true
         → Sim d v c cv (settled c l v (refusalIn c v)) (settled cv lv v (refusalIn cv v))
     unfolding pick
     sim-away r NoEvent h = absurd (false≢true (sym f ∙ h))
     sim-away r Reset h = reset-sim
     sim-away r (Named i y) h =
-        subst (λ (j : ℕ). Sim d (Named j y) c cv (settled c l (Named j y) (refusalIn c (Named j y))) (settled cv lv (Named j y) (refusalIn cv (Named j y)))) (sym (eqb-true i d h)) (named-sim y)
+        subst (λ (j : ℕ). Sim d (Named j y) c cv (settled c l (Named j y) (refusalIn c (Named j y)))
+        (settled cv lv (Named j y) (refusalIn cv (Named j y)))) (sym (eqb-true i d h)) (named-sim y)
     sim-away r (Own a) h = go (inStepAt (c .port .phase) (driveAt c (c .port .selected)) a) refl (rw f at h)
       where
-        go : (b : Bool) → inStepAt (c .port .phase) (driveAt c (c .port .selected)) a ≡ b → reason r d (c .port .online) a (settled c l (Own a) (pick b Taken OutOfStep) .turn .answer) ≡ true
+        go : (b : Bool) → inStepAt (c .port .phase) (driveAt c (c .port .selected)) a ≡ b
+            → reason r d (c .port .online) a (settled c l (Own a) (pick b Taken OutOfStep) .turn .answer) ≡ true
             → Sim d (Own a) c cv (settled c l (Own a) (pick b Taken OutOfStep)) (settled cv lv (Own a) (refusalIn cv (Own a)))
         go true q h =
-            subst (λ (x : Answer). Sim d (Own a) c cv (effectOf c l (Own a)) (settled cv lv (Own a) x)) (sym (ready a (rest-reach r d (c .port .online) a (effectOf c l (Own a) .turn .answer) h))) (own-away r a q h)
+            subst (λ (x : Answer). Sim d (Own a) c cv (effectOf c l (Own a)) (settled cv lv (Own a) x))
+            (sym (ready a (rest-reach r d (c .port .online) a (effectOf c l (Own a) .turn .answer) h))) (own-away r a q h)
         go false q h = absurd (false≢true h)
 
     -- ---- an act of another drive that does not reach d leaves what d sees
 
-    still-view : (g : List ℕ) (m : Acted) → eqb (m .moved .port .selected) d ≡ false → m .moved .port .online ≡ c .port .online → seenIn d (landed c (putStaging l g) m) ≡ look d (world c l)
+    still-view : (g : List ℕ) (m : Acted) → eqb (m .moved .port .selected) d ≡ false → m .moved .port .online ≡ c .port .online
+        → seenIn d (landed c (putStaging l g) m) ≡ look d (world c l)
     still-view g m x o =
         away-alike d (m .moved .port) (c .port) g (l .staging) _ _ _ _ x f o
         (put-away d (c .port .selected) (m .moved .drive) (c .drive0) (c .drive1) (c .drive2) (c .drive3) d3 (k .sel) far)
         (put-away d (c .port .selected) (m .tape) (l .tape0) (l .tape1) (l .tape2) (l .tape3) d3 (k .sel) far)
 
-    own-still : (a : Act) → inStepAt (c .port .phase) (driveAt c (c .port .selected)) a ≡ true → reason realChange d (c .port .online) a (effectOf c l (Own a) .turn .answer) ≡ false
+    own-still : (a : Act) → inStepAt (c .port .phase) (driveAt c (c .port .selected)) a ≡ true
+        → reason realChange d (c .port .online) a (effectOf c l (Own a) .turn .answer) ≡ false
         → seenIn d (effectOf c l (Own a)) ≡ look d (world c l)
     unfolding pick
     own-still (Command c0) q h = by-port (Ports.commanded-ported (seatOf c l) (orderOf c0) (faultOf (seatOf c l) (orderOf c0)))
@@ -516,8 +553,11 @@ module _ (c : Core) (l : Lent) (k : Sound c l) (d : ℕ) (d3 : d ≤ 3) where
         by-port (Ports.turned j p z) =
             still-view _ m (ap (λ (x : Acted). eqb (x .moved .port .selected) d) z ∙ unchosen j p z) (ap (λ (x : Acted). x .moved .port .online) z)
           where
-            unchosen : (j : ℕ) → orderOf c0 ≡ Select j → m ≡ leaves false (atDrive j (c .port)) (chosen (driveAt c (c .port .selected))) (tapeAt l (c .port .selected)) → eqb j d ≡ false
-            unchosen j p z = rw p at (no-choice (answered (pick (m .moved .raised) Raised Taken)) _ _ h (ap (λ (x : Acted). accepted (pick (x .moved .raised) Raised Taken)) z))
+            unchosen : (j : ℕ) → orderOf c0 ≡ Select j → m ≡ leaves false (atDrive j (c .port)) (chosen (driveAt c (c .port .selected)))
+                (tapeAt l (c .port .selected)) → eqb j d ≡ false
+            unchosen j p z =
+                rw p at (no-choice (answered (pick (m .moved .raised) Raised Taken)) _ _ h
+                (ap (λ (x : Acted). accepted (pick (x .moved .raised) Raised Taken)) z))
     own-still (Give b) q h =
         let p = Ports.give-ported _ (seatOf c l) b _ (own-does c l (Give b) k (taken-step c (Give b) q)) in
         still-view _ (act (stagedIn c (Give b) l .staging) (seatOf c l) (Give b)) (rw (p .0) f) (p .1)
@@ -525,11 +565,14 @@ module _ (c : Core) (l : Lent) (k : Sound c l) (d : ℕ) (d3 : d ≤ 3) where
         let p = Ports.take-ported _ (seatOf c l) _ (own-does c l Take k (taken-step c Take q)) in
         still-view _ (act (stagedIn c Take l .staging) (seatOf c l) Take) (rw (p .0) f) (p .1)
     own-still Online q h =
-        let z : c .port .online ≡ true = not-not (c .port .online) (no-change (answered (effectOf c l (Own Online) .turn .answer)) _ _ (answered-done (act (stagedIn c Online l .staging) (seatOf c l) Online .moved .raised)) h) in
+        let z : c .port .online ≡ true = not-not (c .port .online)
+        (no-change (answered (effectOf c l (Own Online) .turn .answer)) _ _
+        (answered-done (act (stagedIn c Online l .staging) (seatOf c l) Online .moved .raised)) h) in
         let p = Ports.online-ported _ (seatOf c l) _ (own-does c l Online k (taken-step c Online q)) in
         still-view _ (act (stagedIn c Online l .staging) (seatOf c l) Online) (rw (p .0) f) (p .1 ∙ sym z)
     own-still Offline q h =
-        let z : c .port .online ≡ false = no-change (answered (effectOf c l (Own Offline) .turn .answer)) _ _ (answered-done (act (stagedIn c Offline l .staging) (seatOf c l) Offline .moved .raised)) h in
+        let z : c .port .online ≡ false = no-change (answered (effectOf c l (Own Offline) .turn .answer)) _ _
+        (answered-done (act (stagedIn c Offline l .staging) (seatOf c l) Offline .moved .raised)) h in
         let p = Ports.offline-ported _ (seatOf c l) _ (own-does c l Offline k (taken-step c Offline q)) in
         still-view _ (act (stagedIn c Offline l .staging) (seatOf c l) Offline) (rw (p .0) f) (p .1 ∙ sym z)
 
@@ -549,10 +592,12 @@ module _ (c : Core) (l : Lent) (k : Sound c l) (d : ℕ) (d3 : d ≤ 3) where
       go true e =
           let z : eqb i (c .port .selected) ≡ false = ap (eqb i) (eqb-true (c .port .selected) d e) ∙ n in
           let ph : phaseAfter x (eqb i (c .port .selected)) (c .port .phase) ≡ c .port .phase = rw (z, and-none (isOut x)) in
-          here-alike d p (c .port) (l .staging) (l .staging) _ _ _ _ (ap (λ (q : Phase). herePort (atPhase q (c .port))) ph) (ap (λ (q : Phase). stagingIn q (l .staging)) ph) drives refl
+          here-alike d p (c .port) (l .staging) (l .staging) _ _ _ _ (ap (λ (q : Phase). herePort (atPhase q (c .port))) ph)
+          (ap (λ (q : Phase). stagingIn q (l .staging)) ph) drives refl
       go false e = away-alike d p (c .port) (l .staging) (l .staging) _ _ _ _ e e refl drives refl
 
-  pub still : (v : Event) → ((i : ℕ) (x : What) → v ≡ Named i x → i ≤ 3) → reachesBy realChange d (c .port .selected) (c .port .online) (settled c l v (refusalIn c v) .turn .answer) v ≡ false
+  pub still : (v : Event) → ((i : ℕ) (x : What) → v ≡ Named i x → i ≤ 3) → reachesBy realChange d (c .port .selected) (c .port .online)
+      (settled c l v (refusalIn c v) .turn .answer) v ≡ false
       → seenIn d (settled c l v (refusalIn c v)) ≡ look d (world c l)
   unfolding pick
   still NoEvent r h = refl
@@ -564,13 +609,15 @@ module _ (c : Core) (l : Lent) (k : Sound c l) (d : ℕ) (d3 : d ≤ 3) where
       by-slot a (bars stops calm) = rw (stops) refl
   still (Own a) r h = by-sel (eqb (c .port .selected) d) refl h
     where
-      by-sel : (s : Bool) → eqb (c .port .selected) d ≡ s → (s || reason realChange d (c .port .online) a (settled c l (Own a) (refusalIn c (Own a)) .turn .answer)) ≡ false
+      by-sel : (s : Bool) → eqb (c .port .selected) d ≡ s
+          → (s || reason realChange d (c .port .online) a (settled c l (Own a) (refusalIn c (Own a)) .turn .answer)) ≡ false
           → seenIn d (settled c l (Own a) (refusalIn c (Own a))) ≡ look d (world c l)
       by-sel true e z = absurd (true≢false z)
       by-sel false e z = by-step (inStepAt (c .port .phase) (driveAt c (c .port .selected)) a) refl z
         where
           by-step : (b : Bool) → inStepAt (c .port .phase) (driveAt c (c .port .selected)) a ≡ b
-              → reason realChange d (c .port .online) a (settled c l (Own a) (pick b Taken OutOfStep) .turn .answer) ≡ false → seenIn d (settled c l (Own a) (pick b Taken OutOfStep)) ≡ look d (world c l)
+              → reason realChange d (c .port .online) a (settled c l (Own a) (pick b Taken OutOfStep) .turn .answer) ≡ false
+              → seenIn d (settled c l (Own a) (pick b Taken OutOfStep)) ≡ look d (world c l)
           by-step true q y = own-still e a q y
           by-step false q y = refl
 

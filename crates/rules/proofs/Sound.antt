@@ -26,7 +26,9 @@ pub record Fit (d : Drive) : Type 0 where
 
 pub fit-of : (d : Drive) → possibleDrive d ≡ true → Fit d
 unfolding possibleDrive
-fit-of d h = let p = both (leb (d .head) longest) (modeFits (d .mode) (d .loaded) (d .protected)) h in record { near = leb-true _ _ (p .0); mode = p .1 }
+fit-of d h =
+    let p = both (leb (d .head) longest) (modeFits (d .mode) (d .loaded) (d .protected)) h in
+    record { near = leb-true _ _ (p .0); mode = p .1 }
 
 pub of-fit : (d : Drive) → Fit d → possibleDrive d ≡ true
 unfolding possibleDrive
@@ -62,13 +64,27 @@ pub sound-possible : (c : Core) (l : Lent) → Sound c l → possible c ≡ true
 unfolding possible
 sound-possible c l k =
     let f = all-hold Fit (c .drive0) (c .drive1) (c .drive2) (c .drive3) (k .fit) in
-    simp (le-leb (c .port .selected) 3 (k .sel), k .phase, of-fit (c .drive0) (f .0), of-fit (c .drive1) (f .1), of-fit (c .drive2) (f .2), of-fit (c .drive3) (f .3))
+    simp (
+      le-leb (c .port .selected) 3 (k .sel),
+      k .phase,
+      of-fit (c .drive0) (f .0),
+      of-fit (c .drive1) (f .1),
+      of-fit (c .drive2) (f .2),
+      of-fit
+          (c .drive3) (f .3),
+    )
 
 pub sound-short : (c : Core) (l : Lent) → Sound c l → short l ≡ true
 unfolding short
 sound-short c l k =
     let f = all-hold (λ (t : List ℕ). length t ≤ longest) (l .tape0) (l .tape1) (l .tape2) (l .tape3) (k .near) in
-    simp (le-leb (length (l .tape0)) longest (f .0), le-leb (length (l .tape1)) longest (f .1), le-leb (length (l .tape2)) longest (f .2), le-leb (length (l .tape3)) longest (f .3))
+    simp (
+      le-leb (length (l .tape0)) longest (f .0),
+      le-leb (length (l .tape1)) longest (f .1),
+      le-leb (length (l .tape2)) longest (f .2),
+      le-leb
+          (length (l .tape3)) longest (f .3),
+    )
 
 pub sound : (c : Core) (l : Lent) → possible c ≡ true → short l ≡ true → Whole l → Sound c l
 unfolding possible short
@@ -85,6 +101,8 @@ sound c l p q w =
       sel = leb-true _ _ (p0 .0);
       phase = p1 .0;
       fit = one-holds Fit (fit-of _ (p2 .0)) (fit-of _ (p3 .0)) (fit-of _ (p4 .0)) (fit-of _ (p4 .1));
-      near = one-holds (λ (t : List ℕ). length t ≤ longest) (leb-true _ _ (q0 .0)) (leb-true _ _ (q1 .0)) (leb-true _ _ (q2 .0)) (leb-true _ _ (q2 .1));
+      near =
+          one-holds (λ (t : List ℕ). length t ≤ longest) (leb-true _ _ (q0 .0)) (leb-true _ _ (q1 .0)) (leb-true _ _ (q2 .0))
+          (leb-true _ _ (q2 .1));
       whole = w;
     }

@@ -37,7 +37,8 @@ use Rattle.rules.proofs.StepBy.{in-step, step-sound, sound-step, own-do
 -- ---- the drive at i after an event that is taken
 
 pub own-drive : (c : Core) (l : Lent) (a : Act) (i : ℕ) → i ≤ 3 → Sound c l
-    → Got i (c .port .selected) (act (stagedIn c a l .staging) (seatOf c l) a .moved .drive) (driveAt c i) (driveAt (effectOf c l (Own a) .turn .core) i)
+    → Got i (c .port .selected) (act (stagedIn c a l .staging) (seatOf c l) a .moved .drive) (driveAt c i)
+    (driveAt (effectOf c l (Own a) .turn .core) i)
 own-drive c l a i r k =
     got i (c .port .selected) (act (stagedIn c a l .staging) (seatOf c l) a .moved .drive) (c .drive0) (c .drive1) (c .drive2) (c .drive3) r (k .sel)
 
@@ -69,7 +70,8 @@ kind Take = no-status (λ q. let z : _≡_ {A = ℕ} 0 1 = cc in omega arith)
 kind Online = no-status (λ q. let z : _≡_ {A = ℕ} 0 1 = cc in omega arith)
 kind Offline = no-status (λ q. let z : _≡_ {A = ℕ} 0 1 = cc in omega arith)
 
-by-status : (c : Core) (event : List ℕ) (i : ℕ) (a : Act) → eventOf event ≡ Own a → a ≡ Command 192 → c .port .selected ≡ i → refusalIn c (Own a) ≡ Taken → ByStatus c event i
+by-status : (c : Core) (event : List ℕ) (i : ℕ) (a : Act) → eventOf event ≡ Own a → a ≡ Command 192 → c .port .selected ≡ i
+    → refusalIn c (Own a) ≡ Taken → ByStatus c event i
 by-status c event i a q e n h = record { event-is = q ∙ ap Own e; selected = n; rest = in-step (atRest (c .port .phase)) (rw e at h) }
 
 -- ---- EXCEPTION falls only by READ STATUS
@@ -81,7 +83,9 @@ befallen-held d Error h = h
 befallen-held d Underrun h = h
 
 reset-up : (c : Core) (i : ℕ) → driveAt (resetCore c) i .exception ≡ true
-reset-up c i = one-holds (λ (d : Drive). d .exception ≡ true) {a = wasReset (c .drive0)} {b = wasReset (c .drive1)} {c = wasReset (c .drive2)} {d = wasReset (c .drive3)} refl refl refl refl i
+reset-up c i =
+    one-holds (λ (d : Drive). d .exception ≡ true) {a = wasReset (c .drive0)} {b = wasReset (c .drive1)} {c = wasReset (c .drive2)}
+    {d = wasReset (c .drive3)} refl refl refl refl i
 
 module _ (c : Core) (l : Lent) (event : List ℕ) (i : ℕ) (real : i ≤ 3) (up : driveAt c i .exception ≡ true) where
   fell : {b : Bool} → b ≡ true → b ≡ false → ByStatus c event i
@@ -92,16 +96,19 @@ module _ (c : Core) (l : Lent) (event : List ℕ) (i : ℕ) (real : i ≤ 3) (up
   named-falls j w d (same e) z = fell (befallen-held (driveAt c j) w (subst (λ (k : ℕ). driveAt c k .exception ≡ true) (sym e) up)) z
 
   own-falls : (a : Act) → eventOf event ≡ Own a → Sound c l → refusalIn c (Own a) ≡ Taken → (d : Drive)
-      → Got i (c .port .selected) (act (stagedIn c a l .staging) (seatOf c l) a .moved .drive) (driveAt c i) d → d .exception ≡ false → ByStatus c event i
+      → Got i (c .port .selected) (act (stagedIn c a l .staging) (seatOf c l) a .moved .drive) (driveAt c i) d → d .exception ≡ false
+      → ByStatus c event i
   own-falls a q k h d (other n) z = fell up z
   own-falls a q k h d (same e) z = go (kind a)
     where
       go : Kind a → ByStatus c event i
       go (status s) = by-status c event i a q s e h
       go (no-status n) =
-          fell (Leaves.does-leaf (stagedIn c a l .staging) (seatOf c l) a _ (own-does c l a k h) .held (subst (λ (j : ℕ). driveAt c j .exception ≡ true) (sym e) up) n) z
+          fell (Leaves.does-leaf (stagedIn c a l .staging) (seatOf c l) a _ (own-does c l a k h) .held
+          (subst (λ (j : ℕ). driveAt c j .exception ≡ true) (sym e) up) n) z
 
-  effect-falls : (e : Event) → eventOf event ≡ e → Sound c l → refusalIn c e ≡ Taken → driveAt (effectOf c l e .turn .core) i .exception ≡ false → ByStatus c event i
+  effect-falls : (e : Event) → eventOf event ≡ e → Sound c l → refusalIn c e ≡ Taken → driveAt (effectOf c l e .turn .core) i .exception ≡ false
+      → ByStatus c event i
   effect-falls NoEvent q k h z = fell up z
   effect-falls Reset q k h z = fell (reset-up c i) z
   effect-falls (Named j w) q k h z = named-falls j w _ (named-drive c l j w i real (named-real event j w q)) z
@@ -109,7 +116,8 @@ module _ (c : Core) (l : Lent) (event : List ℕ) (i : ℕ) (real : i ≤ 3) (up
 
 pub exception-falls : ExceptionFalls
 exception-falls c l event i r w up =
-    sound-step (λ s. driveAt (s .turn .core) i .exception ≡ false → ByStatus c event i) c l event w (λ a z. fell c l event i r up up z) (effect-falls c l event i r up (eventOf event) refl)
+    sound-step (λ s. driveAt (s .turn .core) i .exception ≡ false → ByStatus c event i) c l event w (λ a z. fell c l event i r up up z)
+    (effect-falls c l event i r up (eventOf event) refl)
 
 -- ---- answer 1 and answer 0
 
@@ -129,7 +137,8 @@ out-is Out h = refl
 out-is Error h = cc
 out-is Underrun h = cc
 
-effect-stands : (c : Core) (l : Lent) (event : List ℕ) (e : Event) → eventOf event ≡ e → Sound c l → refusalIn c e ≡ Taken → effectOf c l e .turn .answer ≡ Raised → StandsOnOne (effectOf c l e .turn .core)
+effect-stands : (c : Core) (l : Lent) (event : List ℕ) (e : Event) → eventOf event ≡ e → Sound c l → refusalIn c e ≡ Taken
+    → effectOf c l e .turn .answer ≡ Raised → StandsOnOne (effectOf c l e .turn .core)
 effect-stands c l event NoEvent q k h z = let x : false ≡ true = raised-is false z in absurd (false≢true x)
 effect-stands c l event Reset q k h z = record { drive = 0; real = omega arith; up = reset-up c 0 }
 effect-stands c l event (Named j w) q k h z =
@@ -150,7 +159,8 @@ refused-not a r b n e = true≢false (sym r ∙ ap (λ (x : Answer). rowOf x .re
 
 pub raised-stands : RaisedStands
 raised-stands c l event w =
-    step-sound (λ s. s .turn .answer ≡ Raised → StandsOnOne (s .turn .core)) c l event w (λ a r z. absurd (refused-not a r Raised refl z)) (effect-stands c l event (eventOf event) refl)
+    step-sound (λ s. s .turn .answer ≡ Raised → StandsOnOne (s .turn .core)) c l event w (λ a r z. absurd (refused-not a r Raised refl z))
+    (effect-stands c l event (eventOf event) refl)
 
 befallen-quiet : (d : Drive) (w : What) → isOut w ≡ false → befallen w d .exception ≡ true → d .exception ≡ true
 befallen-quiet d (In p) n h = h
@@ -159,12 +169,14 @@ befallen-quiet d Error n h = h
 befallen-quiet d Underrun n h = h
 
 module _ (c : Core) (l : Lent) (event : List ℕ) (i : ℕ) (real : i ≤ 3) where
-  named-quiet : (j : ℕ) (w : What) (d : Drive) → Got i j (befallen w (driveAt c j)) (driveAt c i) d → isOut w ≡ false → d .exception ≡ true → driveAt c i .exception ≡ true
+  named-quiet : (j : ℕ) (w : What) (d : Drive) → Got i j (befallen w (driveAt c j)) (driveAt c i) d → isOut w ≡ false → d .exception ≡ true
+      → driveAt c i .exception ≡ true
   named-quiet j w d (other n) z u = u
   named-quiet j w d (same e) z u = subst (λ (k : ℕ). driveAt c k .exception ≡ true) e (befallen-quiet (driveAt c j) w z u)
 
   own-quiet : (a : Act) → Sound c l → refusalIn c (Own a) ≡ Taken → (d : Drive)
-      → Got i (c .port .selected) (act (stagedIn c a l .staging) (seatOf c l) a .moved .drive) (driveAt c i) d → act (stagedIn c a l .staging) (seatOf c l) a .moved .raised ≡ false
+      → Got i (c .port .selected) (act (stagedIn c a l .staging) (seatOf c l) a .moved .drive) (driveAt c i) d
+      → act (stagedIn c a l .staging) (seatOf c l) a .moved .raised ≡ false
       → d .exception ≡ true → driveAt c i .exception ≡ true
   own-quiet a k h d (other n) z u = u
   own-quiet a k h d (same e) z u =
@@ -179,7 +191,8 @@ module _ (c : Core) (l : Lent) (event : List ℕ) (i : ℕ) (real : i ≤ 3) whe
 
 pub taken-raises-none : TakenRaisesNone
 taken-raises-none c l event i r w =
-    sound-step (λ s. s .turn .answer ≡ Taken → driveAt (s .turn .core) i .exception ≡ true → driveAt c i .exception ≡ true) c l event w (λ a z u. u) (effect-quiet c l event i r (eventOf event) refl)
+    sound-step (λ s. s .turn .answer ≡ Taken → driveAt (s .turn .core) i .exception ≡ true → driveAt c i .exception ≡ true) c l event w
+    (λ a z u. u) (effect-quiet c l event i r (eventOf event) refl)
 
 -- ---- bits and counts are cleared by READ STATUS and RESET alone
 
@@ -199,7 +212,8 @@ befallen-report d Error =
 befallen-report d Underrun =
     let r = Leaves.report-same d d refl refl refl in record { bits = r .bits; errors = r .errors; underruns = counted-up (d .underruns .0) }
 
-module _ (c : Core) (l : Lent) (event : List ℕ) (i : ℕ) (real : i ≤ 3) (no-reset : eventOf event ≡ Reset → ⊥) (no-status′ : ByStatus c event i → ⊥) where
+module _ (c : Core) (l : Lent) (event : List ℕ) (i : ℕ) (real : i ≤ 3) (no-reset : eventOf event ≡ Reset → ⊥)
+    (no-status′ : ByStatus c event i → ⊥) where
   as-was : ReportStays (driveAt c i) (driveAt c i)
   as-was = Leaves.report-same (driveAt c i) (driveAt c i) refl refl refl
 
@@ -214,7 +228,8 @@ module _ (c : Core) (l : Lent) (event : List ℕ) (i : ℕ) (real : i ≤ 3) (no
       subst (λ (j : ℕ). ReportStays (driveAt c j) (act (stagedIn c a l .staging) (seatOf c l) a .moved .drive)) e
       (Leaves.does-leaf (stagedIn c a l .staging) (seatOf c l) a _ (own-does c l a k h) .report (λ s. no-status′ (by-status c event i a q s e h)))
 
-  effect-report : (e : Event) → eventOf event ≡ e → Sound c l → refusalIn c e ≡ Taken → ReportStays (driveAt c i) (driveAt (effectOf c l e .turn .core) i)
+  effect-report : (e : Event) → eventOf event ≡ e → Sound c l → refusalIn c e ≡ Taken
+      → ReportStays (driveAt c i) (driveAt (effectOf c l e .turn .core) i)
   effect-report NoEvent q k h = as-was
   effect-report Reset q k h = absurd (no-reset q)
   effect-report (Named j w) q k h = named-report j w _ (named-drive c l j w i real (named-real event j w q))
@@ -222,4 +237,5 @@ module _ (c : Core) (l : Lent) (event : List ℕ) (i : ℕ) (real : i ≤ 3) (no
 
 pub cleared-only : ClearedOnly
 cleared-only c l event i r w n s =
-    sound-step (λ x. ReportStays (driveAt c i) (driveAt (x .turn .core) i)) c l event w (λ a. as-was c l event i r n s) (effect-report c l event i r n s (eventOf event) refl)
+    sound-step (λ x. ReportStays (driveAt c i) (driveAt (x .turn .core) i)) c l event w (λ a. as-was c l event i r n s)
+    (effect-report c l event i r n s (eventOf event) refl)

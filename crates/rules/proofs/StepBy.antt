@@ -88,7 +88,8 @@ step-by P c l event f g = go (possible c) (short l) refl refl
     go false b p q = f Impossible refl
 
 -- the same with the staging block of 512 bytes
-pub step-sound : (P : Stepped → Type 0) (c : Core) (l : Lent) (event : List ℕ) → Whole l → ((a : Answer) → rowOf a .refuses ≡ true → P (refused a c l))
+pub step-sound : (P : Stepped → Type 0) (c : Core) (l : Lent) (event : List ℕ) → Whole l
+    → ((a : Answer) → rowOf a .refuses ≡ true → P (refused a c l))
     → (Sound c l → refusalIn c (eventOf event) ≡ Taken → P (effectOf c l (eventOf event))) → P (stepOf c l event)
 step-sound P c l event w f g = step-by P c l event f (λ p q r. g (sound c l p q w) r)
 

@@ -38,19 +38,75 @@ record Lines (a : Answer) (b5 b6 b4 b2 b3 b1 : Bool) : Type 0 where
 in-order : (b5 b6 b4 b2 b3 b1 : Bool) → Lines (inOrder b5 b6 b4 b2 b3 b1) b5 b6 b4 b2 b3 b1
 unfolding pick inOrder
 in-order true b6 b4 b2 b3 b1 =
-    record { l5 = (λ _. refl, λ _. refl); l6 = (λ h. (cc, cc), λ h. cc); l4 = (λ h. (cc, cc, cc), λ h. cc); l2 = (λ h. (cc, cc, cc, cc), λ h. cc); l3 = (λ h. (cc, cc, cc, cc, cc), λ h. cc); l1 = (λ h. (cc, cc, cc, cc, cc, cc), λ h. cc); l0 = (λ h. (cc, cc, cc, cc, cc, cc), λ h. cc) }
+    record {
+      l5 = (λ _. refl, λ _. refl);
+      l6 = (λ h. (cc, cc), λ h. cc);
+      l4 = (λ h. (cc, cc, cc), λ h. cc);
+      l2 = (λ h. (cc, cc, cc, cc), λ h. cc);
+      l3 = (λ h. (cc, cc, cc, cc, cc), λ h. cc);
+      l1 = (λ h. (cc, cc, cc, cc, cc, cc), λ h. cc);
+      l0 = (λ h. (cc, cc, cc, cc, cc, cc), λ h. cc);
+    }
 in-order false true b4 b2 b3 b1 =
-    record { l5 = (λ h. cc, λ h. cc); l6 = (λ _. (refl, refl), λ _. refl); l4 = (λ h. (cc, cc, cc), λ h. cc); l2 = (λ h. (cc, cc, cc, cc), λ h. cc); l3 = (λ h. (cc, cc, cc, cc, cc), λ h. cc); l1 = (λ h. (cc, cc, cc, cc, cc, cc), λ h. cc); l0 = (λ h. (cc, cc, cc, cc, cc, cc), λ h. cc) }
+    record {
+      l5 = (λ h. cc, λ h. cc);
+      l6 = (λ _. (refl, refl), λ _. refl);
+      l4 = (λ h. (cc, cc, cc), λ h. cc);
+      l2 = (λ h. (cc, cc, cc, cc), λ h. cc);
+      l3 = (λ h. (cc, cc, cc, cc, cc), λ h. cc);
+      l1 = (λ h. (cc, cc, cc, cc, cc, cc), λ h. cc);
+      l0 = (λ h. (cc, cc, cc, cc, cc, cc), λ h. cc);
+    }
 in-order false false true b2 b3 b1 =
-    record { l5 = (λ h. cc, λ h. cc); l6 = (λ h. (cc, cc), λ h. cc); l4 = (λ _. (refl, refl, refl), λ _. refl); l2 = (λ h. (cc, cc, cc, cc), λ h. cc); l3 = (λ h. (cc, cc, cc, cc, cc), λ h. cc); l1 = (λ h. (cc, cc, cc, cc, cc, cc), λ h. cc); l0 = (λ h. (cc, cc, cc, cc, cc, cc), λ h. cc) }
+    record {
+      l5 = (λ h. cc, λ h. cc);
+      l6 = (λ h. (cc, cc), λ h. cc);
+      l4 = (λ _. (refl, refl, refl), λ _. refl);
+      l2 = (λ h. (cc, cc, cc, cc), λ h. cc);
+      l3 = (λ h. (cc, cc, cc, cc, cc), λ h. cc);
+      l1 = (λ h. (cc, cc, cc, cc, cc, cc), λ h. cc);
+      l0 = (λ h. (cc, cc, cc, cc, cc, cc), λ h. cc);
+    }
 in-order false false false true b3 b1 =
-    record { l5 = (λ h. cc, λ h. cc); l6 = (λ h. (cc, cc), λ h. cc); l4 = (λ h. (cc, cc, cc), λ h. cc); l2 = (λ _. (refl, refl, refl, refl), λ _. refl); l3 = (λ h. (cc, cc, cc, cc, cc), λ h. cc); l1 = (λ h. (cc, cc, cc, cc, cc, cc), λ h. cc); l0 = (λ h. (cc, cc, cc, cc, cc, cc), λ h. cc) }
+    record {
+      l5 = (λ h. cc, λ h. cc);
+      l6 = (λ h. (cc, cc), λ h. cc);
+      l4 = (λ h. (cc, cc, cc), λ h. cc);
+      l2 = (λ _. (refl, refl, refl, refl), λ _. refl);
+      l3 = (λ h. (cc, cc, cc, cc, cc), λ h. cc);
+      l1 = (λ h. (cc, cc, cc, cc, cc, cc), λ h. cc);
+      l0 = (λ h. (cc, cc, cc, cc, cc, cc), λ h. cc);
+    }
 in-order false false false false true b1 =
-    record { l5 = (λ h. cc, λ h. cc); l6 = (λ h. (cc, cc), λ h. cc); l4 = (λ h. (cc, cc, cc), λ h. cc); l2 = (λ h. (cc, cc, cc, cc), λ h. cc); l3 = (λ _. (refl, refl, refl, refl, refl), λ _. refl); l1 = (λ h. (cc, cc, cc, cc, cc, cc), λ h. cc); l0 = (λ h. (cc, cc, cc, cc, cc, cc), λ h. cc) }
+    record {
+      l5 = (λ h. cc, λ h. cc);
+      l6 = (λ h. (cc, cc), λ h. cc);
+      l4 = (λ h. (cc, cc, cc), λ h. cc);
+      l2 = (λ h. (cc, cc, cc, cc), λ h. cc);
+      l3 = (λ _. (refl, refl, refl, refl, refl), λ _. refl);
+      l1 = (λ h. (cc, cc, cc, cc, cc, cc), λ h. cc);
+      l0 = (λ h. (cc, cc, cc, cc, cc, cc), λ h. cc);
+    }
 in-order false false false false false true =
-    record { l5 = (λ h. cc, λ h. cc); l6 = (λ h. (cc, cc), λ h. cc); l4 = (λ h. (cc, cc, cc), λ h. cc); l2 = (λ h. (cc, cc, cc, cc), λ h. cc); l3 = (λ h. (cc, cc, cc, cc, cc), λ h. cc); l1 = (λ _. (refl, refl, refl, refl, refl, refl), λ _. refl); l0 = (λ h. (cc, cc, cc, cc, cc, cc), λ h. cc) }
+    record {
+      l5 = (λ h. cc, λ h. cc);
+      l6 = (λ h. (cc, cc), λ h. cc);
+      l4 = (λ h. (cc, cc, cc), λ h. cc);
+      l2 = (λ h. (cc, cc, cc, cc), λ h. cc);
+      l3 = (λ h. (cc, cc, cc, cc, cc), λ h. cc);
+      l1 = (λ _. (refl, refl, refl, refl, refl, refl), λ _. refl);
+      l0 = (λ h. (cc, cc, cc, cc, cc, cc), λ h. cc);
+    }
 in-order false false false false false false =
-    record { l5 = (λ h. cc, λ h. cc); l6 = (λ h. (cc, cc), λ h. cc); l4 = (λ h. (cc, cc, cc), λ h. cc); l2 = (λ h. (cc, cc, cc, cc), λ h. cc); l3 = (λ h. (cc, cc, cc, cc, cc), λ h. cc); l1 = (λ h. (cc, cc, cc, cc, cc, cc), λ h. cc); l0 = (λ _. (refl, refl, refl, refl, refl, refl), λ _. refl) }
+    record {
+      l5 = (λ h. cc, λ h. cc);
+      l6 = (λ h. (cc, cc), λ h. cc);
+      l4 = (λ h. (cc, cc, cc), λ h. cc);
+      l2 = (λ h. (cc, cc, cc, cc), λ h. cc);
+      l3 = (λ h. (cc, cc, cc, cc, cc), λ h. cc);
+      l1 = (λ h. (cc, cc, cc, cc, cc, cc), λ h. cc);
+      l0 = (λ _. (refl, refl, refl, refl, refl, refl), λ _. refl);
+    }
 
 -- what is taken is answered by whether a rule raised EXCEPTION
 effect-answer : (c : Core) (l : Lent) (e : Event) → effectOf c l e .turn .answer ≡ pick (raises c l e) Raised Taken
@@ -60,13 +116,15 @@ effect-answer c l Reset = refl
 effect-answer c l (Named i w) = refl
 effect-answer c l (Own a) = refl
 
-settled-answer : (c : Core) (l : Lent) (e : Event) → settled c l e (refusalIn c e) .turn .answer ≡ inOrder false false (malformed e) (outOfStep c e) (wrongSlot c e) (raises c l e)
+settled-answer : (c : Core) (l : Lent) (e : Event) → settled c l e (refusalIn c e) .turn .answer ≡ inOrder false false (malformed e)
+    (outOfStep c e) (wrongSlot c e) (raises c l e)
 unfolding pick inOrder
 settled-answer c l NoEvent = refl
 settled-answer c l Reset = refl
 settled-answer c l (Named i w) = go (driveAt c i .loaded) w
   where
-    go : (b : Bool) (w : What) → settled c l (Named i w) (slotAnswer b w) .turn .answer ≡ pick (not (slotFits b w)) WrongSlot (pick (isOut w) Raised Taken)
+    go : (b : Bool) (w : What) → settled c l (Named i w) (slotAnswer b w) .turn .answer ≡ pick (not (slotFits b w)) WrongSlot
+        (pick (isOut w) Raised Taken)
     go true (In p) = refl
     go false (In p) = refl
     go true Out = refl
@@ -82,14 +140,16 @@ settled-answer c l (Own a) = go (inStepAt (c .port .phase) (driveAt c (c .port .
     go false = refl
 
 step-answer : (c : Core) (l : Lent) (event : List ℕ)
-    → answerTo c l event ≡ inOrder (impossible c) (tooLong l) (malformed (eventOf event)) (outOfStep c (eventOf event)) (wrongSlot c (eventOf event)) (raises c l (eventOf event))
+    → answerTo c l event ≡ inOrder (impossible c) (tooLong l) (malformed (eventOf event)) (outOfStep c (eventOf event))
+    (wrongSlot c (eventOf event)) (raises c l (eventOf event))
 unfolding pick inOrder stepOf stepBy refusalOf
 step-answer c l event = go (possible c) (short l)
   where
     e : Event
     e = eventOf event
 
-    go : (p s : Bool) → settled c l e (refusalBy p s (refusalIn c e)) .turn .answer ≡ inOrder (not p) (not s) (malformed e) (outOfStep c e) (wrongSlot c e) (raises c l e)
+    go : (p s : Bool) → settled c l e (refusalBy p s (refusalIn c e)) .turn .answer ≡ inOrder (not p) (not s) (malformed e) (outOfStep c e)
+        (wrongSlot c e) (raises c l e)
     go true true = settled-answer c l e
     go true false = refl
     go false s = refl

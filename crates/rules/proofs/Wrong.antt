@@ -50,7 +50,8 @@ use Rattle.rules.proofs.Status.{cleared-only}
 use Rattle.rules.proofs.Plug.{other-drives-stay}
 
 -- an answer of 0 or 1 comes of the effect
-effect-by : (P : Stepped → Type 0) (c : Core) (l : Lent) (event : List ℕ) (e : Event) → eventOf event ≡ e → (a : Answer) → rowOf a .refuses ≡ false → stepOf c l event .turn .answer ≡ a
+effect-by : (P : Stepped → Type 0) (c : Core) (l : Lent) (event : List ℕ) (e : Event) → eventOf event ≡ e → (a : Answer)
+    → rowOf a .refuses ≡ false → stepOf c l event .turn .answer ≡ a
     → (effectOf c l e .turn .answer ≡ a → P (effectOf c l e)) → P (stepOf c l event)
 effect-by P c l event e q a n h f =
     step-by (λ s. s .turn .answer ≡ a → P s) c l event (λ b r z. absurd (true≢false (sym r ∙ ap (λ (x : Answer). rowOf x .refuses) z ∙ n)))
@@ -58,13 +59,15 @@ effect-by P c l event e q a n h f =
 
 -- ---- CNI
 
-stays-latched : (es : List (List ℕ)) (w : World) (i : ℕ) → i ≤ 3 → Whole (w .lent) → Unread i w es → driveAt (w .core) i .latched .cni ≡ true → driveAt (run w es .core) i .latched .cni ≡ true
+stays-latched : (es : List (List ℕ)) (w : World) (i : ℕ) → i ≤ 3 → Whole (w .lent) → Unread i w es → driveAt (w .core) i .latched .cni ≡ true
+    → driveAt (run w es .core) i .latched .cni ≡ true
 unfolding after
 stays-latched [] w i r k u h = h
 stays-latched (e ∷ es) w i r k (n, s, u) h =
     stays-latched es (after w e) i r (staging-stays-whole (w .core) (w .lent) e k) u (cleared-only (w .core) (w .lent) e i r k n s .bits .cni h)
 
-pulled-latches : (w : World) (i : ℕ) (e : List ℕ) → eventOf e ≡ Named i Out → turnOf w e .answer ≡ Raised → driveAt (after w e .core) i .latched .cni ≡ true
+pulled-latches : (w : World) (i : ℕ) (e : List ℕ) → eventOf e ≡ Named i Out → turnOf w e .answer ≡ Raised
+    → driveAt (after w e .core) i .latched .cni ≡ true
 unfolding after turnOf
 pulled-latches w i e q h =
     effect-by (λ s. driveAt (s .turn .core) i .latched .cni ≡ true) (w .core) (w .lent) e (Named i Out) q Raised refl h (λ _. rw put-same)
@@ -105,7 +108,8 @@ record Counted (c : Core) (i : ℕ) (s : Stepped) : Type 0 where
 pub underrun-waits : UnderrunWaits
 unfolding after turnOf pick
 underrun-waits w i e q h =
-    let r = effect-by (Counted (w .core) i) (w .core) (w .lent) e (Named i Underrun) q Taken refl h (λ _. record { port = refl; count = rw put-same }) in
+    let r = effect-by (Counted (w .core) i) (w .core) (w .lent) e (Named i Underrun) q Taken refl h
+    (λ _. record { port = refl; count = rw put-same }) in
     record { port = r .port; count = r .count }
 
 record Placed (l : Lent) (b : ℕ) (s : Stepped) : Type 0 where
@@ -134,7 +138,8 @@ record Marked (c : Core) (l : Lent) (s : Stepped) : Type 0 where
   selected : s .turn .core .port .selected ≡ c .port .selected
   mode : driveAt (s .turn .core) (c .port .selected) .mode ≡ Idle
 
-landed-marks : (c : Core) (l : Lent) (f : Fault) → landed c l (commanded (seatOf c l) WriteMark f) .turn .answer ≡ Taken → Marked c l (landed c l (commanded (seatOf c l) WriteMark f))
+landed-marks : (c : Core) (l : Lent) (f : Fault) → landed c l (commanded (seatOf c l) WriteMark f) .turn .answer ≡ Taken
+    → Marked c l (landed c l (commanded (seatOf c l) WriteMark f))
 unfolding pick
 landed-marks c l Fine h = record { tape = rw put-same; selected = refl; mode = rw put-same }
 landed-marks c l Illegal h = record { tape = cc; selected = cc; mode = cc }
@@ -144,7 +149,8 @@ landed-marks c l Full h = record { tape = cc; selected = cc; mode = cc }
 
 marks : (c : Core) (l : Lent) → effectOf c l (Own (Command 96)) .turn .answer ≡ Taken → Marked c l (effectOf c l (Own (Command 96)))
 marks c l =
-    subst (λ (o : Order). landed c l (commanded (seatOf c l) o (faultOf (seatOf c l) o)) .turn .answer ≡ Taken → Marked c l (landed c l (commanded (seatOf c l) o (faultOf (seatOf c l) o))))
+    subst (λ (o : Order). landed c l (commanded (seatOf c l) o (faultOf (seatOf c l) o)) .turn .answer ≡ Taken
+    → Marked c l (landed c l (commanded (seatOf c l) o (faultOf (seatOf c l) o))))
     (sym mark-code) (landed-marks c l (faultOf (seatOf c l) WriteMark))
 
 -- an Idle drive records nothing when ONLINE drops
@@ -157,9 +163,11 @@ idle-keeps g s m Acts.has-no-room i = refl
 
 idle-drop : (c : Core) (l : Lent) (event : List ℕ) → Whole l → eventOf event ≡ Own Offline → driveAt c (c .port .selected) .mode ≡ Idle
     → tapeAt (stepOf c l event .lent) (c .port .selected) ≡ tapeAt l (c .port .selected)
-idle-drop c l event k q i = step-sound (λ s. tapeAt (s .lent) (c .port .selected) ≡ tapeAt l (c .port .selected)) c l event k (λ _ _. refl) (go (eventOf event) q)
+idle-drop c l event k q i =
+    step-sound (λ s. tapeAt (s .lent) (c .port .selected) ≡ tapeAt l (c .port .selected)) c l event k (λ _ _. refl) (go (eventOf event) q)
   where
-    go : (e : Event) → e ≡ Own Offline → Sound c l → refusalIn c e ≡ Taken → tapeAt (effectOf c l e .lent) (c .port .selected) ≡ tapeAt l (c .port .selected)
+    go : (e : Event) → e ≡ Own Offline → Sound c l → refusalIn c e ≡ Taken → tapeAt (effectOf c l e .lent) (c .port .selected) ≡ tapeAt l
+        (c .port .selected)
     go e z s h =
         subst (λ (x : Event). refusalIn c x ≡ Taken → tapeAt (effectOf c l x .lent) (c .port .selected) ≡ tapeAt l (c .port .selected)) (sym z)
         (λ r. rw put-same (idle-keeps (l .staging) (seatOf c l) _ (own-does c l Offline s r) i)) h
@@ -171,5 +179,6 @@ one-mark-only w k e f q h p =
     let n = w .core .port .selected in
     let x = after w e in
     subst (λ (j : ℕ). tapeAt (after x f .lent) j ≡ tapeAt (x .lent) j) (m .selected)
-    (idle-drop (x .core) (x .lent) f (staging-stays-whole (w .core) (w .lent) e k) p (subst (λ (j : ℕ). driveAt (x .core) j .mode ≡ Idle) (sym (m .selected)) (m .mode)))
+    (idle-drop (x .core) (x .lent) f (staging-stays-whole (w .core) (w .lent) e k) p
+    (subst (λ (j : ℕ). driveAt (x .core) j .mode ≡ Idle) (sym (m .selected)) (m .mode)))
     ∙ m .tape

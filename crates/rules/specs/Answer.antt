@@ -4,7 +4,8 @@ use mathlib.Core.Bool.{Bool, true, false}
 use Rattle.rules.specs.declared.answer.Answer.{Answer}
 use Rattle.rules.specs.declared.answer.Answer.the-variants.{Taken, Raised, OutOfStep, WrongSlot, Malformed, Impossible, TooLong}
 
--- A row of the table of answers: its number; whether it refuses, and so leaves all as found; whether it puts the three lines down; whether a byte may come with it.
+-- A row of the table of answers: its number; whether it refuses, and so leaves all as found; whether it puts the three lines down;
+-- whether a byte may come with it.
 pub record Row : Type 0 where
   pub number : ℕ
   pub refuses : Bool

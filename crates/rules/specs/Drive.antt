@@ -42,19 +42,69 @@ withBit Por l = record { cni = l .cni; eom = l .eom; ude = l .ude; fil = l .fil;
 
 -- The parts of the record, each set by itself: what a move does not name stays.
 abbrev pub setCartridge : Bool → Bool → Drive → Drive
-setCartridge l p d = record { loaded = l; protected = p; head = d .head; mode = d .mode; exception = d .exception; latched = d .latched; errors = d .errors; underruns = d .underruns }
+setCartridge l p d =
+    record {
+      loaded = l;
+      protected = p;
+      head = d .head;
+      mode = d .mode;
+      exception = d .exception;
+      latched = d .latched;
+      errors = d .errors;
+      underruns = d .underruns;
+    }
 
 abbrev pub setHead : ℕ → Drive → Drive
-setHead h d = record { loaded = d .loaded; protected = d .protected; head = h; mode = d .mode; exception = d .exception; latched = d .latched; errors = d .errors; underruns = d .underruns }
+setHead h d =
+    record {
+      loaded = d .loaded;
+      protected = d .protected;
+      head = h;
+      mode = d .mode;
+      exception = d .exception;
+      latched = d .latched;
+      errors = d .errors;
+      underruns = d .underruns;
+    }
 
 abbrev pub inMode : Mode → Drive → Drive
-inMode m d = record { loaded = d .loaded; protected = d .protected; head = d .head; mode = m; exception = d .exception; latched = d .latched; errors = d .errors; underruns = d .underruns }
+inMode m d =
+    record {
+      loaded = d .loaded;
+      protected = d .protected;
+      head = d .head;
+      mode = m;
+      exception = d .exception;
+      latched = d .latched;
+      errors = d .errors;
+      underruns = d .underruns;
+    }
 
 abbrev pub setReport : Bool → Latched → Drive → Drive
-setReport e l d = record { loaded = d .loaded; protected = d .protected; head = d .head; mode = d .mode; exception = e; latched = l; errors = d .errors; underruns = d .underruns }
+setReport e l d =
+    record {
+      loaded = d .loaded;
+      protected = d .protected;
+      head = d .head;
+      mode = d .mode;
+      exception = e;
+      latched = l;
+      errors = d .errors;
+      underruns = d .underruns;
+    }
 
 abbrev pub setCounts : Errors → Underruns → Drive → Drive
-setCounts e n d = record { loaded = d .loaded; protected = d .protected; head = d .head; mode = d .mode; exception = d .exception; latched = d .latched; errors = e; underruns = n }
+setCounts e n d =
+    record {
+      loaded = d .loaded;
+      protected = d .protected;
+      head = d .head;
+      mode = d .mode;
+      exception = d .exception;
+      latched = d .latched;
+      errors = e;
+      underruns = n;
+    }
 
 abbrev pub noErrors : Errors
 noErrors = record { 0 = 0 }
@@ -64,7 +114,17 @@ noUnderruns = record { 0 = 0 }
 
 -- Fresh: no cartridge or plug, head 0, Idle, counters 0, POR latched and EXCEPTION up.
 abbrev pub freshDrive : Drive
-freshDrive = record { loaded = false; protected = false; head = 0; mode = Idle; exception = true; latched = withBit Por noBits; errors = noErrors; underruns = noUnderruns }
+freshDrive =
+    record {
+      loaded = false;
+      protected = false;
+      head = 0;
+      mode = Idle;
+      exception = true;
+      latched = withBit Por noBits;
+      errors = noErrors;
+      underruns = noUnderruns;
+    }
 
 -- RESET: as fresh; cartridge and plug stay.
 abbrev pub wasReset : Drive → Drive

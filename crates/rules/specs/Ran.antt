@@ -8,7 +8,8 @@ use Rattle.rules.specs.Unit.{Lent}
 use Rattle.rules.specs.Step.{Steps}
 use Rattle.rules.specs.Run.{World, world, after, run, turnOf, turns}
 
--- From a world, over a list of events, with what each was answered, to the world that is left. Of each event no more is known than the contract that `step` and `step_core` share.
+-- From a world, over a list of events, with what each was answered, to the world that is left.
+-- Of each event no more is known than the contract that `step` and `step_core` share.
 pub data Ran : World → List (List ℕ) → List Turn → World → Type 0 where
   no-event : {w : World} → Ran w [] [] w
   next : {c : Core} {l l′ : Lent} {event : List ℕ} {events : List (List ℕ)} {r : Turn} {rs : List Turn} {w : World}
@@ -22,6 +23,10 @@ pub record AsTheBook (w : World) (events : List (List ℕ)) (rs : List Turn) (w�
 abbrev pub RunsAreTheBooks : Type 0
 RunsAreTheBooks = (w w′ : World) (events : List (List ℕ)) (rs : List Turn) → Ran w events rs w′ → AsTheBook w events rs w′
 
+-- What a loop over the step leaves of a core and of what is lent, after these events: the book's run.
+abbrev pub RunsTo : Core → Lent → List (List ℕ) → Core → Lent → Type 0
+RunsTo c l events c′ l′ = world c′ l′ ≡ run (world c l) events
+
 -- There is such a run of every list of events.
 abbrev pub EveryRun : Type 0
 EveryRun = (w : World) (events : List (List ℕ)) → Ran w events (turns w events) (run w events)
@@ -32,9 +37,11 @@ pub record AsOne (w : World) (event : List ℕ) (r : Turn) (w′ : World) : Type
   pub answered : turnOf w event ≡ r
 
 abbrev pub StepsAreTheBooks : Type 0
-StepsAreTheBooks = (c : Core) (l : Lent) (event : List ℕ) (r : Turn) (l′ : Lent) → Steps c l event r l′ → AsOne (world c l) event r (world (r .core) l′)
+StepsAreTheBooks = (c : Core) (l : Lent) (event : List ℕ) (r : Turn) (l′ : Lent) → Steps c l event r l′
+    → AsOne (world c l) event r (world (r .core) l′)
 
--- ONE LAW for every loop that calls the step: where the event stepped is the first of those still to come, the run of the others from what the step left is the run
+-- ONE LAW for every loop that calls the step:
+-- where the event stepped is the first of those still to come, the run of the others from what the step left is the run
 -- that was to come, and its answer is the first of that run's.
 pub record Goes (c : Core) (l : Lent) (event : List ℕ) (r : Turn) (l′ : Lent) (still rest : List (List ℕ)) : Type 0 where
   pub run-on : run (world (r .core) l′) rest ≡ run (world c l) still

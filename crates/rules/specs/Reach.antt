@@ -60,7 +60,8 @@ answered a = not (rowOf a .refuses)
 abbrev pub accepted : Answer → Bool
 accepted a = eqb (rowOf a .number) 0
 
--- Whether an event reaches drive d, by what was selected and the level before it, and by its answer. An event that names a drive reaches that one alone;
+-- Whether an event reaches drive d, by what was selected and the level before it, and by its answer.
+-- An event that names a drive reaches that one alone;
 -- an act reaches the drive it is for, and any drive whose level it changes or that it selects.
 abbrev pub reachesBy : Change → ℕ → ℕ → Bool → Answer → Event → Bool
 reachesBy r d selected level a NoEvent = eqb selected d

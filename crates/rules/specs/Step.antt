@@ -74,7 +74,8 @@ seatOf c l = seat (c .port) (driveAt c (c .port .selected)) (tapeAt l (c .port .
 
 abbrev pub landed : Core → Lent → Acted → Stepped
 landed c l m =
-    done (m .moved .raised) (m .moved .given) (m .moved .byte) (putDrive c (m .moved .port) (c .port .selected) (m .moved .drive)) (putTape l (c .port .selected) (m .tape))
+    done (m .moved .raised) (m .moved .given) (m .moved .byte) (putDrive c (m .moved .port) (c .port .selected) (m .moved .drive))
+    (putTape l (c .port .selected) (m .tape))
 
 -- An act of the host: the byte staged first, then the act of the selected drive.
 abbrev pub stagedIn : Core → Act → Lent → Lent

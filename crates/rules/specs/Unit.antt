@@ -46,7 +46,13 @@ driveAt c i = oneOf i (c .drive0) (c .drive1) (c .drive2) (c .drive3)
 
 abbrev pub putDrive : Core → Port → ℕ → Drive → Core
 putDrive c p i d =
-    record { port = p; drive0 = putAt 0 i d (c .drive0); drive1 = putAt 1 i d (c .drive1); drive2 = putAt 2 i d (c .drive2); drive3 = putLast i d (c .drive3) }
+    record {
+      port = p;
+      drive0 = putAt 0 i d (c .drive0);
+      drive1 = putAt 1 i d (c .drive1);
+      drive2 = putAt 2 i d (c .drive2);
+      drive3 = putLast i d (c .drive3);
+    }
 
 abbrev pub tapeAt : Lent → ℕ → List ℕ
 tapeAt l i = oneOf i (l .tape0) (l .tape1) (l .tape2) (l .tape3)
@@ -86,7 +92,13 @@ resetPort p = atDrive 0 p
 
 abbrev pub resetCore : Core → Core
 resetCore c =
-    record { port = resetPort (c .port); drive0 = wasReset (c .drive0); drive1 = wasReset (c .drive1); drive2 = wasReset (c .drive2); drive3 = wasReset (c .drive3) }
+    record {
+      port = resetPort (c .port);
+      drive0 = wasReset (c .drive0);
+      drive1 = wasReset (c .drive1);
+      drive2 = wasReset (c .drive2);
+      drive3 = wasReset (c .drive3);
+    }
 
 abbrev pub resetUnit : Unit → Unit
 resetUnit u = record { core = resetCore (u .core); staging = u .staging }

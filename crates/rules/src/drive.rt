@@ -1,6 +1,7 @@
 // One drive's record and its moves: each takes the record and hands it back changed.
 ghost use mathlib.Core.Path.{_≡_};
-ghost use Rattle.rules.specs.Drive.{isWriting, isReading, withBit, noBits, freshDrive, wasReset, rewound, chosen, raised, latching, stopping, inMode, made, passedTo, cleared, counted, errorCounted, underrunCounted, loadedWith, pulled, writes, reads};
+ghost use Rattle.rules.specs.Drive.{isWriting, isReading, withBit, noBits, freshDrive, wasReset, rewound, chosen, raised, latching, stopping};
+ghost use Rattle.rules.specs.Drive.{inMode, made, passedTo, cleared, counted, errorCounted, underrunCounted, loadedWith, pulled, writes, reads};
 use crate::HIGHEST;
 
 pub enum Mode {

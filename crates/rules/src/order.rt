@@ -14,7 +14,8 @@ pub enum Order {
     ReadStatus,
 }
 
-// A row for each order: a known code; READ STATUS; taken in Writing; taken in Reading; what it needs of the line, the slot and the plug; the room it asks for.
+// A row for each order: a known code; READ STATUS; taken in Writing; taken in Reading; what it needs of the line, the slot and the plug;
+// the room it asks for.
 pub struct Needs {
     pub known: bool,
     pub status: bool,

@@ -1,6 +1,7 @@
 // The unit's record: what the cable and the selected drive share, four drives, and the staging block.
 ghost use mathlib.Core.Path.{_≡_};
-ghost use Rattle.rules.specs.Unit.{atPhase, atLevel, atDrive, showing, resetPort, freshPort, driveAt, putDrive, freshCore, resetCore, freshUnit, resetUnit};
+ghost use Rattle.rules.specs.Unit.{atPhase, atLevel, atDrive, showing, resetPort, freshPort};
+ghost use Rattle.rules.specs.Unit.{driveAt, putDrive, freshCore, resetCore, freshUnit, resetUnit};
 use crate::OCTETS;
 use crate::drive::Drive;
 use crate::phase::Phase;

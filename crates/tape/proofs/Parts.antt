@@ -56,7 +56,8 @@ part-back : (t p : List ℕ) (h : ℕ) → take h t ++ (p ++ drop (length t - h)
 part-back t p h = rw (drop-of-length-le (drop h t) {i = length t - h} (omega (arith, length-drop h t)), append-nil)
 
 -- the whole tape, when the part from h on is back with a record at its front
-record-back : (t p rec : List ℕ) (h : ℕ) → p ≡ putIn rec (take (length t - h) (drop h t)) → take h t ++ (p ++ drop (length t - h) (drop h t)) ≡ recorded t h rec
+record-back : (t p rec : List ℕ) (h : ℕ) → p ≡ putIn rec (take (length t - h) (drop h t)) → take h t
+    ++ (p ++ drop (length t - h) (drop h t)) ≡ recorded t h rec
 unfolding recorded
 record-back t p rec h e = part-back t p h ∙ ap (λ (q : List ℕ). take h t ++ q) (e ∙ ap (putIn rec) (part-of t h))
 

@@ -29,7 +29,8 @@ walk-more t zero m h a b = sym (walk-off t m h (omega arith))
 walk-more t (suc n) zero h a b = walk-off t (suc n) h (omega arith)
 walk-more t (suc n) (suc m) h a b = go (foundAt t h) refl (λ k p q. walk-more t n m k p q)
   where
-    go : (f : Found) → foundAt t h ≡ f → ((k : ℕ) → length t < n + k → length t < m + k → walk t n k ≡ walk t m k) → walk t (suc n) h ≡ walk t (suc m) h
+    go : (f : Found) → foundAt t h ≡ f → ((k : ℕ) → length t < n + k → length t < m + k → walk t n k ≡ walk t m k)
+        → walk t (suc n) h ≡ walk t (suc m) h
     go Block e ih = rw (e, walk, ih (h + 513) (omega arith) (omega arith))
     go Mark e ih = rw (e, walk, ih (h + 1) (omega arith) (omega arith))
     go (Stop w) e ih = rw (e, walk)
@@ -130,7 +131,8 @@ module _ (t : List ℕ) (h n : ℕ) where
   pub stands-first : Stands t h n h n 0
   stands-first = record { far = omega arith; few = omega arith; ends = refl; marked = omega arith; counted = omega arith }
 
-  pub over-blocks : (at left records : ℕ) → Stands t h n at left records → 0 < left → foundAt t at ≡ Block → Stands t h n (at + 513) left (records + 1)
+  pub over-blocks : (at left records : ℕ) → Stands t h n at left records → 0 < left → foundAt t at ≡ Block
+      → Stands t h n (at + 513) left (records + 1)
   over-blocks at left records s l e =
       let w = way-block t at left l e in
       record {
@@ -141,7 +143,8 @@ module _ (t : List ℕ) (h n : ℕ) where
         counted = omega (arith, w .counted, s .counted);
       }
 
-  pub over-marks : (at left records : ℕ) → Stands t h n at left records → 0 < left → foundAt t at ≡ Mark → Stands t h n (at + 1) (left - 1) (records + 1)
+  pub over-marks : (at left records : ℕ) → Stands t h n at left records → 0 < left → foundAt t at ≡ Mark
+      → Stands t h n (at + 1) (left - 1) (records + 1)
   over-marks at left records s l e =
       let w = way-mark t at left l e in
       record {

@@ -27,7 +27,8 @@ inside false n size false false false p q r = omega arith
 pub next-inside : (ending : Bool) (l : List ℕ) → nextSize ending l ≤ length l
 unfolding nextSize cutOf cutBy
 next-inside ending l =
-    inside ending (length l) (kindSize (getD l 0 0)) (eqb (length l) 0) (eqb (kindSize (getD l 0 0)) 0) (leb (kindSize (getD l 0 0)) (length l)) refl refl refl
+    inside ending (length l) (kindSize (getD l 0 0)) (eqb (length l) 0) (eqb (kindSize (getD l 0 0)) 0) (leb (kindSize (getD l 0 0)) (length l))
+    refl refl refl
 
 fuel-step : (f g size : ℕ) (ending : Bool) (l : List ℕ) (b : Bool)
     → (b ≡ false → eventsBy f ending (drop size l) ≡ eventsBy g ending (drop size l))
@@ -59,7 +60,8 @@ pub events-none : (ending : Bool) (l : List ℕ) → nextSize ending l ≡ 0 →
 unfolding eventsOf
 events-none ending l h =
     events-fuel (length l) (suc (length l)) ending l (omega arith) (omega arith)
-    ∙ elim-true (eqb (nextSize ending l) 0) [] (take (nextSize ending l) l ∷ eventsBy (length l) ending (drop (nextSize ending l) l)) (eq-eqb (nextSize ending l) 0 h)
+    ∙ elim-true (eqb (nextSize ending l) 0) [] (take (nextSize ending l) l ∷ eventsBy (length l) ending (drop (nextSize ending l) l))
+    (eq-eqb (nextSize ending l) 0 h)
 
 -- The events are the one that is cut off the front, and those behind it.
 pub events-next : (ending : Bool) (l : List ℕ) (size : ℕ) → size ≡ nextSize ending l → (size ≡ 0 → ⊥)
@@ -70,4 +72,5 @@ events-next ending l size e h =
     events-fuel (length l) (suc (length l)) ending l (omega arith) (omega arith)
     ∙ elim-false (eqb (nextSize ending l) 0) [] (take (nextSize ending l) l ∷ eventsBy (length l) ending (drop (nextSize ending l) l)) p
     ∙ rw e (ap (λ (es : List (List ℕ)). take (nextSize ending l) l ∷ es)
-    (events-fuel (length l) (length (drop (nextSize ending l) l)) ending (drop (nextSize ending l) l) (rw (length-drop (nextSize ending l) l) (omega arith)) (omega arith)))
+    (events-fuel (length l) (length (drop (nextSize ending l) l)) ending (drop (nextSize ending l) l)
+    (rw (length-drop (nextSize ending l) l) (omega arith)) (omega arith)))

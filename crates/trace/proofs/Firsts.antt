@@ -30,7 +30,8 @@ one-answered w n e es r f =
 
 pub by-the-book : ByTheBook
 by-the-book room full w n [] = none-answered w n [] InputOut
-by-the-book room full w n (e ∷ es) = go (hasRoom room full n) (stops (turnOf w e .answer)) (by-the-book room (full + lineSize (n + 1)) (after w e) (n + 1) es)
+by-the-book room full w n (e ∷ es) =
+    go (hasRoom room full n) (stops (turnOf w e .answer)) (by-the-book room (full + lineSize (n + 1)) (after w e) (n + 1) es)
   where
     go : (x stop : Bool) → FirstOf (after w e) (n + 1) es (play room (full + lineSize (n + 1)) (after w e) (n + 1) es)
         → FirstOf w n (e ∷ es) (elim x [

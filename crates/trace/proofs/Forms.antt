@@ -25,7 +25,8 @@ use Rattle.trace.specs.Play.{stops}
 use Rattle.trace.specs.Form.{CutByTheTable}
 
 -- A kind is one of the table, or its event is none.
-kind-is : (k j size : ℕ) (e d : Event) → kindSize j ≡ size → ((d ≡ NoEvent → ⊥) → kindSize k ≡ size) → (pick (eqb k j) e d ≡ NoEvent → ⊥) → kindSize k ≡ size
+kind-is : (k j size : ℕ) (e d : Event) → kindSize j ≡ size → ((d ≡ NoEvent → ⊥) → kindSize k ≡ size) → (pick (eqb k j) e d ≡ NoEvent → ⊥)
+    → kindSize k ≡ size
 unfolding pick
 kind-is k j size e d at-j otherwise h = go (eqb k j) refl h
   where
@@ -74,7 +75,8 @@ refusal-is : (c : Core) (l : Lent) → possible c ≡ true → short l ≡ true 
 unfolding refusalOf pick
 refusal-is c l p q = rw (p, q)
 
-stopped-is : (c : Core) (l : Lent) (e : List ℕ) → possible c ≡ true → short l ≡ true → eventOf e ≡ NoEvent → stops (turnOf (world c l) e .answer) ≡ true
+stopped-is : (c : Core) (l : Lent) (e : List ℕ) → possible c ≡ true → short l ≡ true → eventOf e ≡ NoEvent
+    → stops (turnOf (world c l) e .answer) ≡ true
 unfolding turnOf stepOf stepBy stops pick
 stopped-is c l e p q h =
     ap (λ (x : Event). stops (stepBy c l x .turn .answer)) h

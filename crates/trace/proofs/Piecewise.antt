@@ -29,7 +29,8 @@ grown ending size n n′ false true true h q = refl
 grown ending size n n′ false true false h q = absurd (false≢true (h refl))
 grown ending size n n′ false false x′ h q = absurd (q refl)
 
-next-some : (ending : Bool) (l : List ℕ) → (length l ≡ 0 → ⊥) → nextSize ending l ≡ answered ending (length l) (cutBy (kindSize (getD l 0 0)) (length l))
+next-some : (ending : Bool) (l : List ℕ) → (length l ≡ 0 → ⊥)
+    → nextSize ending l ≡ answered ending (length l) (cutBy (kindSize (getD l 0 0)) (length l))
 unfolding nextSize cutOf pick
 next-some ending l h = rw (ne-eqb (length l) 0 h)
 
@@ -43,7 +44,8 @@ same-cut ending m (k ∷ xs) q =
     let longer : n ≤ n′ = omega (arith, length-append xs m) in
     let here : nextSize false (k ∷ xs) ≡ answered false n (cutBy size n) = next-some false (k ∷ xs) (λ p. omega (arith, p)) in
     next-some ending (k ∷ (xs ++ m)) (λ p. omega (arith, p))
-    ∙ grown ending size n n′ (eqb size 0) (leb size n) (leb size n′) (λ p. let h = leb-true size n p in le-leb size n′ (omega arith)) (λ p. q (here ∙ p))
+    ∙ grown ending size n n′ (eqb size 0) (leb size n) (leb size n′) (λ p. let h = leb-true size n p in le-leb size n′ (omega arith))
+    (λ p. q (here ∙ p))
     ∙ sym here
 
 -- Either no event is cut off the front, or one is and fewer bytes are left.
@@ -113,17 +115,20 @@ module _ (b e : Bool) (m : List ℕ) (agree : (x : List ℕ) → (nextSize b x �
       where
         go : (x : Bool) → tell w n (event ∷ eventsOf e (drop size l ++ m))
             ≡ joined (elim x [
-              | true ↦ since (length event) line (elim (stops (turnOf w event .answer)) [ true ↦ still (after w event) (n + 1) Stopped | false ↦ run ])
+              | true ↦ since (length event) line
+                  (elim (stops (turnOf w event .answer)) [ true ↦ still (after w event) (n + 1) Stopped | false ↦ run ])
               | false ↦ still w n RoomOut
             ]) l
         go true = answered-so ih (stops (turnOf w event .answer))
         go false = sym (ap (λ (es : List (List ℕ)). tell w n es) all-events)
 
-  without-event : (room full : ℕ) (w : World) (n : ℕ) (l : List ℕ) → nextSize b l ≡ 0 → tell w n (eventsOf e (l ++ m)) ≡ joined (play room full w n (eventsOf b l)) l
+  without-event : (room full : ℕ) (w : World) (n : ℕ) (l : List ℕ) → nextSize b l ≡ 0
+      → tell w n (eventsOf e (l ++ m)) ≡ joined (play room full w n (eventsOf b l)) l
   without-event room full w n l p = sym (ap (λ (es : List (List ℕ)). joined (play room full w n es) l) (events-none b l p))
 
   -- By the number of bytes: each event takes at least one.
-  joins : (fuel room full : ℕ) (w : World) (n : ℕ) (l : List ℕ) → length l ≤ fuel → tell w n (eventsOf e (l ++ m)) ≡ joined (play room full w n (eventsOf b l)) l
+  joins : (fuel room full : ℕ) (w : World) (n : ℕ) (l : List ℕ) → length l ≤ fuel
+      → tell w n (eventsOf e (l ++ m)) ≡ joined (play room full w n (eventsOf b l)) l
   joins zero room full w n l h = let q = next-inside b l in without-event room full w n l (omega arith)
   joins (suc fuel) room full w n l h =
       by-next b l (without-event room full w n l)
@@ -169,6 +174,7 @@ nothing-lost =
           λ room full w n l.
           ap (λ (x : List ℕ). tell w n (eventsOf true x)) (sym (append-nil l))
           ∙ joins true true [] (λ x some. ap (λ (y : List ℕ). nextSize true y) (append-nil x)) (length l) room full w n l (omega arith)
-          ∙ ap (λ (x : List ℕ). goneOn (play room full w n (eventsOf true l)) (eventsOf true x)) (append-nil (drop (play room full w n (eventsOf true l) .used) l));
+          ∙ ap (λ (x : List ℕ). goneOn (play room full w n (eventsOf true l)) (eventsOf true x))
+          (append-nil (drop (play room full w n (eventsOf true l) .used) l));
       spent = λ room full w n ending l. spends ending (length l) room full w n l (omega arith);
     }

@@ -24,7 +24,8 @@ use Rattle.trace.proofs.Cutting.{next-inside, events-none, events-next}
 use Rattle.trace.proofs.Turning.{room-fits}
 
 -- Where a run stands, with so much used and written: what is written, and behind it what the rest will write, is the whole; the output behind it is as found.
-pub record Stands (c : Core) (l : Lent) (input : List ℕ) (ending : Bool) (count : ℕ) (o : List ℕ) (used written : ℕ) (out : List ℕ) (rest : Run) : Type 0 where
+pub record Stands (c : Core) (l : Lent) (input : List ℕ) (ending : Bool) (count : ℕ) (o : List ℕ) (used written : ℕ) (out : List ℕ)
+    (rest : Run) : Type 0 where
   pub whole : since used (take written out) rest ≡ play (length o) 0 (world c l) count (eventsOf ending input)
   pub behind : drop written out ≡ drop written o
   pub inside : used ≤ length input
@@ -32,7 +33,8 @@ pub record Stands (c : Core) (l : Lent) (input : List ℕ) (ending : Bool) (coun
   pub same : length out ≡ length o
 
 -- A run that stands in the world w, with n events answered: the rest of it is still to come.
-pub record Runs (c : Core) (l : Lent) (input : List ℕ) (ending : Bool) (count : ℕ) (o : List ℕ) (w : World) (used written n : ℕ) (out : List ℕ) : Type 0 where
+pub record Runs (c : Core) (l : Lent) (input : List ℕ) (ending : Bool) (count : ℕ) (o : List ℕ) (w : World) (used written n : ℕ)
+    (out : List ℕ) : Type 0 where
   pub stands : Stands c l input ending count o used written out (play (length o) written w n (eventsOf ending (drop used input)))
 
 -- Before the first turn nothing is used or written.
@@ -69,7 +71,16 @@ module _ {c : Core} {l : Lent} {input : List ℕ} {ending : Bool} {count : ℕ} 
   halts s q =
       record {
         is =
-            rw (q, ← s .whole, add-zero used, append-nil (take written out), length-take-le written out (s .within), ← s .behind, take-append-drop written out);
+            rw (
+              q,
+              ← s .whole,
+              add-zero used,
+              append-nil (take written out),
+              length-take-le written out (s .within),
+              ← s .behind,
+              take-append-drop
+                  written out,
+            );
         within = rw q (s .inside);
         fits = rw q (rw (s .same) at (s .within));
       }
@@ -78,7 +89,9 @@ module _ {c : Core} {l : Lent} {input : List ℕ} {ending : Bool} {count : ℕ} 
 part-end : (l : List ℕ) (k : ℕ) → take (length l - k) (drop k l) ≡ drop k l
 part-end l k = take-all (length l - k) (drop k l) (rw (length-drop k l) (omega arith))
 
-module _ {c : Core} {l : Lent} {input : List ℕ} {ending : Bool} {count : ℕ} {o : List ℕ} {w : World} {used written n : ℕ} {out : List ℕ} (g : Runs c l input ending count o w used written n out) {size : ℕ} (cut : size ≡ nextSize ending (take (length input - used) (drop used input))) where
+module _ {c : Core} {l : Lent} {input : List ℕ} {ending : Bool} {count : ℕ} {o : List ℕ} {w : World} {used written n : ℕ} {out : List ℕ}
+    (g : Runs c l input ending count o w used written n out) {size : ℕ}
+    (cut : size ≡ nextSize ending (take (length input - used) (drop used input))) where
   next-is : size ≡ nextSize ending (drop used input)
   next-is = cut ∙ ap (λ (x : List ℕ). nextSize ending x) (part-end input used)
 
@@ -91,7 +104,8 @@ module _ {c : Core} {l : Lent} {input : List ℕ} {ending : Bool} {count : ℕ} 
 
   -- No event is left.
   pub none-left : size ≡ 0 → Stands c l input ending count o used written out (still w n InputOut)
-  none-left p = with-rest (g .stands) (ap (λ (es : List (List ℕ)). play (length o) written w n es) (events-none ending (drop used input) (sym next-is ∙ p)))
+  none-left p =
+      with-rest (g .stands) (ap (λ (es : List (List ℕ)). play (length o) written w n es) (events-none ending (drop used input) (sym next-is ∙ p)))
 
   module _ (some : size ≡ 0 → ⊥) where
     abbrev event : List ℕ
@@ -117,7 +131,8 @@ module _ {c : Core} {l : Lent} {input : List ℕ} {ending : Bool} {count : ℕ} 
         ∙ ap (λ (x : List ℕ). event ∷ eventsOf ending x) (drop-drop size used input)
 
     played : (b : Bool) → hasRoom (length out) written n ≡ b
-        → play (length o) written w n (eventsOf ending (drop used input)) ≡ elim b [ true ↦ since (length event) line rest | false ↦ still w n RoomOut ]
+        → play (length o) written w n (eventsOf ending (drop used input)) ≡ elim b
+        [ true ↦ since (length event) line rest | false ↦ still w n RoomOut ]
     played b p =
         ap (λ (es : List (List ℕ)). play (length o) written w n es) events
         ∙ ap (λ (x : Bool). elim x [ true ↦ since (length event) line rest | false ↦ still w n RoomOut ]) (rw (g .stands .same) at p)
@@ -126,7 +141,8 @@ module _ {c : Core} {l : Lent} {input : List ℕ} {ending : Bool} {count : ℕ} 
     pub no-room : hasRoom (length out) written n ≡ false → Stands c l input ending count o used written out (still w n RoomOut)
     no-room p = with-rest (g .stands) (played false p)
 
-    module _ (fits : hasRoom (length out) written n ≡ true) {t : Turned} (made-at : t ≡ turn w (take (used + size - used) (drop used input)) (n + 1) out written) where
+    module _ (fits : hasRoom (length out) written n ≡ true) {t : Turned}
+        (made-at : t ≡ turn w (take (used + size - used) (drop used input)) (n + 1) out written) where
       made : t ≡ turn w event (n + 1) out written
       made = let e : used + size - used ≡ size = omega arith in rw e at made-at
 
@@ -169,7 +185,9 @@ module _ {c : Core} {l : Lent} {input : List ℕ} {ending : Bool} {count : ℕ} 
                 ∙ since-since used (length event) (take written out) line rest
                 ∙ ap (λ (k : ℕ). since (used + k) (take written out ++ line) rest) (length-take-le size (drop used input) size-inside))
                 ∙ g .stands .whole;
-            behind = rw (past-line, out-is) (drop-placed out written line line-inside ∙ rw (← drop-drop (length line) written out, ← drop-drop (length line) written o, g .stands .behind));
+            behind =
+                rw (past-line, out-is) (drop-placed out written line line-inside
+                ∙ rw (← drop-drop (length line) written out, ← drop-drop (length line) written o, g .stands .behind));
             inside = event-inside;
             within = rw (out-is, past-line, placed-length out written line line-inside) line-inside;
             same = ap length out-is ∙ placed-length out written line line-inside ∙ g .stands .same;
@@ -181,7 +199,8 @@ module _ {c : Core} {l : Lent} {input : List ℕ} {ending : Bool} {count : ℕ} 
           record {
             stands =
                 with-rest turn-taken
-                (elim-false (stops (turnOf w event .answer)) (still (after w event) (n + 1) Stopped) (later (written + lineSize (n + 1)) (after w event)) (stop-is ∙ p)
+                (elim-false (stops (turnOf w event .answer)) (still (after w event) (n + 1) Stopped)
+                (later (written + lineSize (n + 1)) (after w event)) (stop-is ∙ p)
                 ∙ sym (ap₂ later full-is world-is));
           }
 
@@ -189,5 +208,6 @@ module _ {c : Core} {l : Lent} {input : List ℕ} {ending : Bool} {count : ℕ} 
       pub goes-no-further : t .stop ≡ true → Stands c l input ending count o (used + size) (t .full) (t .out) (still (t .world) (n + 1) Stopped)
       goes-no-further p =
           with-rest turn-taken
-          (elim-true (stops (turnOf w event .answer)) (still (after w event) (n + 1) Stopped) (later (written + lineSize (n + 1)) (after w event)) (stop-is ∙ p)
+          (elim-true (stops (turnOf w event .answer)) (still (after w event) (n + 1) Stopped) (later (written + lineSize (n + 1)) (after w event))
+          (stop-is ∙ p)
           ∙ sym (ap (λ (v : World). still v (n + 1) Stopped) world-is))

@@ -20,5 +20,7 @@ use Rattle.trace.specs.Play.{lineIn, stops}
 use Rattle.trace.specs.Sample.{SampleTold}
 
 pub sample-told : SampleTold
-unfolding pick ofKind foundAt counted oneOf putAt putLast bareEvent bodiedEvent eventOf possibleDrive possiblePhase possible short refusalOf linesOf orderOf illegal faultBy withTop octet0 octet1 octetsOf faultOf octetTaken stepBy stepOf after turnOf kindSize cutBy cutOf nextSize eventsOf digit decimal orDash fieldsOf lineOf lineIn stops
+unfolding pick ofKind foundAt counted oneOf putAt putLast bareEvent bodiedEvent eventOf possibleDrive possiblePhase possible short refusalOf
+    linesOf orderOf illegal faultBy withTop octet0 octet1 octetsOf faultOf octetTaken stepBy stepOf after turnOf kindSize cutBy cutOf nextSize
+    eventsOf digit decimal orDash fieldsOf lineOf lineIn stops
 sample-told = record { text = refl; count = refl; stopped = refl }

@@ -1,4 +1,5 @@
--- A run answers the first of its events as the book's run does: the world, the count, the bytes used and the lines are those of exactly these events, in their order.
+-- A run answers the first of its events as the book's run does:
+-- the world, the count, the bytes used and the lines are those of exactly these events, in their order.
 use Prim.Native.Nat.{ℕ, _+_}
 use mathlib.Core.Path.{_≡_}
 use mathlib.Core.List.{List, [], _∷_, _++_}

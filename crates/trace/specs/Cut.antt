@@ -40,7 +40,8 @@ cutBy size n = pick (eqb size 0) UnknownKind (pick (leb size n) (Whole size) Cut
 unfoldable pub cutOf : List ℕ → Cut
 cutOf l = pick (eqb (length l) 0) NoneLeft (cutBy (kindSize (getD l 0 0)) (length l))
 
--- The bytes that are answered as one event, of n bytes cut so; 0: none yet. An unknown kind is an event of one byte; where the input ends, what is cut off is one event.
+-- The bytes that are answered as one event, of n bytes cut so; 0: none yet. An unknown kind is an event of one byte;
+-- where the input ends, what is cut off is one event.
 abbrev pub answered : Bool → ℕ → Cut → ℕ
 answered ending n (Whole size) = size
 answered ending n UnknownKind = bareSize

@@ -21,4 +21,5 @@ pub record CutByTheTable : Type 0 where
   pub unknown : (l : List ℕ) → cutOf l ≡ UnknownKind → eventOf (take 1 l) ≡ NoEvent
   pub cut-off : (l : List ℕ) → cutOf l ≡ CutOff → eventOf l ≡ NoEvent
   -- What is no event of the table stops the reading, in a possible record with tapes that are not too long.
-  pub stopped : (c : Core) (l : Lent) (e : List ℕ) → possible c ≡ true → short l ≡ true → eventOf e ≡ NoEvent → stops (turnOf (world c l) e .answer) ≡ true
+  pub stopped : (c : Core) (l : Lent) (e : List ℕ) → possible c ≡ true → short l ≡ true → eventOf e ≡ NoEvent
+      → stops (turnOf (world c l) e .answer) ≡ true

@@ -9,7 +9,8 @@ use Rattle.trace.specs.declared.run.Halt.the-variants.{InputOut, RoomOut
 use Rattle.trace.specs.Cut.{eventsOf}
 use Rattle.trace.specs.Play.{lineIn, stops, Run, play}
 
--- What is told of a whole trace, with room for all of it: the world that it leaves, the count of events answered in all, whether an answer 4 stopped it, the text.
+-- What is told of a whole trace, with room for all of it:
+-- the world that it leaves, the count of events answered in all, whether an answer 4 stopped it, the text.
 pub record Told : Type 0 where
   pub world : World
   pub count : ℕ
@@ -45,10 +46,12 @@ goneOn r es =
 pub record NothingLost : Type 0 where
   -- The bytes l are run as far as their whole events and the room go; then what is left of them, with m behind it.
   pub piece : (room full : ℕ) (w : World) (n : ℕ) (ending : Bool) (l m : List ℕ)
-      → tell w n (eventsOf ending (l ++ m)) ≡ goneOn (play room full w n (eventsOf false l)) (eventsOf ending (drop (play room full w n (eventsOf false l) .used) l ++ m))
+      → tell w n (eventsOf ending (l ++ m)) ≡ goneOn (play room full w n (eventsOf false l))
+      (eventsOf ending (drop (play room full w n (eventsOf false l) .used) l ++ m))
   -- The last bytes of the input are run, as far as the room goes; then what is left of them.
   pub last : (room full : ℕ) (w : World) (n : ℕ) (l : List ℕ)
-      → tell w n (eventsOf true l) ≡ goneOn (play room full w n (eventsOf true l)) (eventsOf true (drop (play room full w n (eventsOf true l) .used) l))
+      → tell w n (eventsOf true l) ≡ goneOn (play room full w n (eventsOf true l))
+      (eventsOf true (drop (play room full w n (eventsOf true l) .used) l))
   -- Where the input ran out no event is left in it.
   pub spent : (room full : ℕ) (w : World) (n : ℕ) (ending : Bool) (l : List ℕ)
       → play room full w n (eventsOf ending l) .halt ≡ InputOut → eventsOf ending (drop (play room full w n (eventsOf ending l) .used) l) ≡ []

@@ -78,12 +78,20 @@ pub record Left : Type 0 where
 
 abbrev pub leaves : List ℕ → Run → Left
 leaves o r =
-    record { world = r .world; used = r .used; count = r .count; halt = r .halt; written = length (r .text); out = r .text ++ drop (length (r .text)) o }
+    record {
+      world = r .world;
+      used = r .used;
+      count = r .count;
+      halt = r .halt;
+      written = length (r .text);
+      out = r .text ++ drop (length (r .text)) o;
+    }
 
 abbrev pub left : Played → Lent → List ℕ → Left
 left p l o = record { world = world (p .core) l; used = p .used; count = p .count; halt = p .halt; written = p .written; out = o }
 
--- THE CONTRACT of a run over a buffer of input: what it hands back, every byte that it leaves of what it was lent, and that it stays inside input and output.
+-- THE CONTRACT of a run over a buffer of input:
+-- what it hands back, every byte that it leaves of what it was lent, and that it stays inside input and output.
 pub record Plays (c : Core) (l : Lent) (input : List ℕ) (ending : Bool) (n : ℕ) (o : List ℕ) (p : Played) (l′ : Lent) (o′ : List ℕ) : Type 0 where
   pub is : left p l′ o′ ≡ leaves o (play (length o) 0 (world c l) n (eventsOf ending input))
   pub within : p .used ≤ length input
@@ -102,3 +110,6 @@ turned a l o = record { world = world (a .core) l; stop = a .stop; full = a .ful
 unfoldable pub turn : World → List ℕ → ℕ → List ℕ → ℕ → Turned
 turn w e n o full =
     record { world = after w e; stop = stops (turnOf w e .answer); full = full + lineSize n; out = placed o full (lineIn w e n) }
+
+abbrev pub AnswersOne : Core → Lent → List ℕ → ℕ → List ℕ → ℕ → Answered → Lent → List ℕ → Type 0
+AnswersOne c l e n o full a l′ o′ = turned a l′ o′ ≡ turn (world c l) e (n + 1) o full

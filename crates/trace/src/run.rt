@@ -1,11 +1,9 @@
 // Events run one after the other over a unit and its tapes, and a line shown for each.
 ghost use mathlib.Core.Path.{_≡_};
 ghost use mathlib.Core.Bool.{true};
-ghost use Prim.Native.Nat.{_+_};
 ghost use lib.ListN.{length};
 ghost use Rattle.rules.specs.Unit.{lent};
-ghost use Rattle.rules.specs.Run.{world};
-ghost use Rattle.trace.specs.Play.{hasRoom, stops, turned, turn, Plays};
+ghost use Rattle.trace.specs.Play.{hasRoom, stops, AnswersOne, Plays};
 use crate::cut::next_size;
 use crate::line::FIELDS;
 use crate::line::put_line;
@@ -73,7 +71,11 @@ fn answer_event(
     full: usize,
 ) -> Answered
     requires { ⌜ hasRoom (length (now out)) full count ≡ true ⌝ }
-    ensures { λ r. ⌜ turned r (lent (now (staging .exit)) (now (tape0 .exit)) (now (tape1 .exit)) (now (tape2 .exit)) (now (tape3 .exit))) (now (out .exit)) ≡ turn (world core (lent (now (staging .entry)) (now (tape0 .entry)) (now (tape1 .entry)) (now (tape2 .entry)) (now (tape3 .entry)))) (now (event .entry)) (count + 1) (now (out .entry)) full ⌝ }
+    ensures { λ r. ⌜ AnswersOne core
+        (lent (now (staging .entry)) (now (tape0 .entry)) (now (tape1 .entry)) (now (tape2 .entry)) (now (tape3 .entry)))
+        (now (event .entry)) count (now (out .entry)) full r
+        (lent (now (staging .exit)) (now (tape0 .exit)) (now (tape1 .exit)) (now (tape2 .exit)) (now (tape3 .exit)))
+        (now (out .exit)) ⌝ }
 {
     let turn = unit::step_core(core, staging, tape0, tape1, tape2, tape3, event);
     let answer = turn.answer;
@@ -100,7 +102,8 @@ fn hand_back(core: Core, used: usize, written: usize, count: u64, halt: Halt) ->
     }
 }
 
-// Whole events of the input in their order, and where the input is ending what is cut off too, while there is room, up to and with the first answer 4.
+// Whole events of the input in their order, and where the input is ending what is cut off too, while there is room,
+// up to and with the first answer 4.
 pub fn play(
     core: Core,
     staging: &mut [u8; BODY],
@@ -113,7 +116,11 @@ pub fn play(
     count: u64,
     out: &mut [u8],
 ) -> Played
-    ensures { λ r. ⌜ Plays core (lent (now (staging .entry)) (now (tape0 .entry)) (now (tape1 .entry)) (now (tape2 .entry)) (now (tape3 .entry))) (now (input .entry)) ending count (now (out .entry)) r (lent (now (staging .exit)) (now (tape0 .exit)) (now (tape1 .exit)) (now (tape2 .exit)) (now (tape3 .exit))) (now (out .exit)) ⌝ }
+    ensures { λ r. ⌜ Plays core
+        (lent (now (staging .entry)) (now (tape0 .entry)) (now (tape1 .entry)) (now (tape2 .entry)) (now (tape3 .entry)))
+        (now (input .entry)) ending count (now (out .entry)) r
+        (lent (now (staging .exit)) (now (tape0 .exit)) (now (tape1 .exit)) (now (tape2 .exit)) (now (tape3 .exit)))
+        (now (out .exit)) ⌝ }
 {
     let mut c = core;
     let mut used: usize = 0;

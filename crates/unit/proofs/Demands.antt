@@ -19,7 +19,8 @@ use Rattle.rules.specs.Ran.{Ran, no-event, next}
 use Rattle.unit.specs.Demands.{reachedIn, gaveIn, OneDrive, DemandsHold}
 use Rattle.rules.proofs.Ran.{steps-are-the-books, runs-are-the-books}
 
-refused : (c : Core) (l : Lent) (event : List ℕ) (r : Turn) (l′ : Lent) → Steps c l event r l′ → rowOf (r .answer) .refuses ≡ true → AsFound c l (stepped r l′)
+refused : (c : Core) (l : Lent) (event : List ℕ) (r : Turn) (l′ : Lent) → Steps c l event r l′ → rowOf (r .answer) .refuses ≡ true
+    → AsFound c l (stepped r l′)
 refused c l event r l′ p h =
     rw (p .is) (refused-keeps c l event (ap (λ (s : Stepped). rowOf (s .turn .answer) .refuses) (sym (p .is)) ∙ h))
 
@@ -41,7 +42,8 @@ seen k d w w′ (e ∷ es) (r ∷ rs) (next {c} {l} {l′} p q) =
           ∙ ap₂ (λ (t : Turn) (v : World). onlyIf (here t) e (reached k d v es)) (sym (one .answered)) (sym (one .left));
       gave-is =
           ap (λ (x : List Gave). onlyIf (here r) (gaveBy d (c .port .selected) (eventOf e) r) x) (rest .gave-is)
-          ∙ ap₂ (λ (t : Turn) (v : World). onlyIf (here t) (gaveBy d (c .port .selected) (eventOf e) t) (given k d v es)) (sym (one .answered)) (sym (one .left));
+          ∙ ap₂ (λ (t : Turn) (v : World). onlyIf (here t) (gaveBy d (c .port .selected) (eventOf e) t) (given k d v es)) (sym (one .answered))
+          (sym (one .left));
     }
 
 one-drive : (k : Change) → Demand3For k → OneDrive k

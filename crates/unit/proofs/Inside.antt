@@ -105,7 +105,8 @@ outstanding-status (Giving n) some = absurd (not-suc-le-zero some)
 outstanding-status (Status k) some = refl
 
 -- so the phase, the place and the event are known
-given-there : (ph : Phase) (l : List ℕ) (n : ℕ) → n ≡ givenPlace ph l → 0 < n → (ph ≡ Taking n) × (n < lastPlace) × (eventOf l ≡ Own (Give (bodyOf l)))
+given-there : (ph : Phase) (l : List ℕ) (n : ℕ) → n ≡ givenPlace ph l → 0 < n → (ph ≡ Taking n) × (n < lastPlace)
+    × (eventOf l ≡ Own (Give (bodyOf l)))
 unfolding pick bodyOf eventOf bodiedEvent
 given-there ph l n is some =
     let there = only-there 2 2 (within (givenBefore ph)) l (rw (is) at some) in
@@ -179,7 +180,8 @@ module _ (c : Core) (l : Lent) (event : List ℕ) (r : Turn) (p s : Bool) (ok : 
       let free = both (p && s) (seen .writes) so in
       let writing : writes d ≡ true = ap (λ (x : Seen). x .writes) (sym looked) ∙ free .1 in
       let shown = lines-known c (Taking (n + 1)) false 0 false (writing-lines (d .mode) (d .exception) writing) in
-      let moves = phase-moves c l (Give (bodyOf event)) (Taking (n + 1)) false 0 (rw (there .0) writing) (rw (there .0, lt-ltb n lastPlace (there .1)) refl) in
+      let moves = phase-moves c l (Give (bodyOf event)) (Taking (n + 1)) false 0 (rw (there .0) writing)
+      (rw (there .0, lt-ltb n lastPlace (there .1)) refl) in
       settles (putStaging l g) (Own (Give (bodyOf event))) (free .0) (there .2)
       (ap₂ (λ (x : Turn) (y : List ℕ). stepped x (putStaging l y)) (turn ∙ shown) put ∙ moves)
 
@@ -196,7 +198,8 @@ module _ (c : Core) (l : Lent) (event : List ℕ) (r : Turn) (p s : Bool) (ok : 
       let found = next-there d t n (ap (λ (x : Next). x .there) (sym byte) ∙ free .1) in
       let here : next .byte ≡ getD t (d .head + 1 + n) 0 = ap (λ (x : Next). x .byte) byte ∙ found .1 .1 in
       let shown = lines-known c (Giving (n + 1)) true (next .byte) true (reading-lines (d .mode) (d .exception) (found .0)) in
-      let moves = phase-moves c l Take (Giving (n + 1)) true (next .byte) (rw (there .0) refl) (rw (there .0, found .1 .0, lt-ltb n lastPlace (there .1), here) refl) in
+      let moves = phase-moves c l Take (Giving (n + 1)) true (next .byte) (rw (there .0) refl)
+      (rw (there .0, found .1 .0, lt-ltb n lastPlace (there .1), here) refl) in
       settles l (Own Take) (free .0) (there .2) (ap (λ (x : Turn). stepped x l) (turn ∙ shown) ∙ moves)
 
   -- an octet of a report

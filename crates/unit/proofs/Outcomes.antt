@@ -21,7 +21,8 @@ one-outcome =
       step-core = steps-once;
       step =
           λ c l event r r′ l′ l″ p q.
-          let e = steps-once c l event (turnOfOutcome r) (turnOfOutcome r′) (putStaging l′ (r .unit .staging)) (putStaging l″ (r′ .unit .staging)) p q in
+          let e = steps-once c l event (turnOfOutcome r) (turnOfOutcome r′) (putStaging l′ (r .unit .staging)) (putStaging l″ (r′ .unit .staging))
+          p q in
           let g = e .1 in (
             ap₂ outcome (e .0) (ap (λ (x : Lent). x .staging) g),
             (ap (λ (x : Lent). x .tape0) g, ap (λ (x : Lent). x .tape1) g, ap (λ (x : Lent). x .tape2) g, ap (λ (x : Lent). x .tape3) g),

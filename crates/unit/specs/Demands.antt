@@ -28,9 +28,11 @@ abbrev pub gaveIn : Change → ℕ → Core → List (List ℕ) → List Turn �
 gaveIn k d c [] rs = []
 gaveIn k d c (e ∷ es) [] = []
 gaveIn k d c (e ∷ es) (r ∷ rs) =
-    onlyIf (reachesBy k d (c .port .selected) (c .port .online) (r .answer) (eventOf e)) (gaveBy d (c .port .selected) (eventOf e) r) (gaveIn k d (r .core) es rs)
+    onlyIf (reachesBy k d (c .port .selected) (c .port .online) (r .answer) (eventOf e)) (gaveBy d (c .port .selected) (eventOf e) r)
+    (gaveIn k d (r .core) es rs)
 
--- Two runs of the step from a fresh unit, any tapes of allowed length that agree on drive d's, any events: where the same events reach the drive in the same order,
+-- Two runs of the step from a fresh unit, any tapes of allowed length that agree on drive d's, any events:
+-- where the same events reach the drive in the same order,
 -- it ends the same and gave the same.
 abbrev pub OneDrive : Change → Type 0
 OneDrive k =
@@ -44,7 +46,8 @@ OneDrive k =
 pub record DemandsHold : Type 0 where
   -- 1. The answer is the one that the table gives, and a refused event leaves all as found.
   pub answered : (c : Core) (l : Lent) (event : List ℕ) (r : Turn) (l′ : Lent) → Steps c l event r l′ → r .answer ≡ answerTo c l event
-  pub refused : (c : Core) (l : Lent) (event : List ℕ) (r : Turn) (l′ : Lent) → Steps c l event r l′ → rowOf (r .answer) .refuses ≡ true → AsFound c l (stepped r l′)
+  pub refused : (c : Core) (l : Lent) (event : List ℕ) (r : Turn) (l′ : Lent) → Steps c l event r l′ → rowOf (r .answer) .refuses ≡ true
+      → AsFound c l (stepped r l′)
   -- 2. Core, staging block, tapes and all that was answered are the book's after every run.
   pub books : RunsAreTheBooks
   -- 3. One drive depends on what reaches it, and on nothing else.

@@ -29,7 +29,8 @@ unfoldable pub nextOf : Drive → List ℕ → ℕ → Next
 nextOf d t n =
     pick (reads d) (pick (isBlock (foundAt t (d .head))) (record { there = true; byte = getD t (d .head + 1 + n) 0 }) noByte) noByte
 
--- AN ACT THAT MOVES THE PHASE ALONE, in a possible record with short tapes, is settled by the turn that says so: the law of all that is looked for first.
+-- AN ACT THAT MOVES THE PHASE ALONE, in a possible record with short tapes, is settled by the turn that says so:
+-- the law of all that is looked for first.
 abbrev pub PhaseMoves : Type 0
 PhaseMoves =
     (c : Core) (l : Lent) (a : Act) (ph : Phase) (given : Bool) (b : ℕ)

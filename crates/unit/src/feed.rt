@@ -1,7 +1,7 @@
 // A caller of the step that keeps core, staging block and tapes apart, so that no event copies the block.
 ghost use mathlib.Core.Path.{_≡_};
 ghost use Rattle.rules.specs.Unit.{lent};
-ghost use Rattle.rules.specs.Run.{world, run};
+ghost use Rattle.rules.specs.Ran.{RunsTo};
 ghost use Rattle.unit.specs.Feed.{givenEach};
 use crate::steps::step_core;
 use answers::GIVEN;
@@ -18,7 +18,10 @@ pub fn give_bytes(
     tape3: &mut [u8],
     bytes: &[u8],
 ) -> Core
-    ensures { λ r. ⌜ world r (lent (now (staging .exit)) (now (tape0 .exit)) (now (tape1 .exit)) (now (tape2 .exit)) (now (tape3 .exit))) ≡ run (world core (lent (now (staging .entry)) (now (tape0 .entry)) (now (tape1 .entry)) (now (tape2 .entry)) (now (tape3 .entry)))) (givenEach (now (bytes .entry))) ⌝ }
+    ensures { λ r. ⌜ RunsTo core
+        (lent (now (staging .entry)) (now (tape0 .entry)) (now (tape1 .entry)) (now (tape2 .entry)) (now (tape3 .entry)))
+        (givenEach (now (bytes .entry))) r
+        (lent (now (staging .exit)) (now (tape0 .exit)) (now (tape1 .exit)) (now (tape2 .exit)) (now (tape3 .exit))) ⌝ }
 {
     let mut after = core;
     let mut i = 0;

@@ -25,7 +25,8 @@ pub(crate) fn act_on(
     tape: &mut [u8],
     a: Act,
 ) -> Turn
-    ensures { λ r. ⌜ ownTurn r (now (staging .exit)) (now (tape .exit)) ≡ ownBy core possible short drive (now (staging .entry)) (now (tape .entry)) a ⌝ }
+    ensures { λ r. ⌜ ownTurn r (now (staging .exit)) (now (tape .exit))
+        ≡ ownBy core possible short drive (now (staging .entry)) (now (tape .entry)) a ⌝ }
 {
     let port = core.port;
     let phase = port.phase;

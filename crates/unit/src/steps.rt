@@ -42,7 +42,10 @@ pub fn step_core(
     tape3: &mut [u8],
     event: &[u8],
 ) -> Turn
-    ensures { λ r. ⌜ Steps core (lent (now (staging .entry)) (now (tape0 .entry)) (now (tape1 .entry)) (now (tape2 .entry)) (now (tape3 .entry))) (now (event .entry)) r (lent (now (staging .exit)) (now (tape0 .exit)) (now (tape1 .exit)) (now (tape2 .exit)) (now (tape3 .exit))) ⌝ }
+    ensures { λ r. ⌜ Steps core
+        (lent (now (staging .entry)) (now (tape0 .entry)) (now (tape1 .entry)) (now (tape2 .entry)) (now (tape3 .entry)))
+        (now (event .entry)) r
+        (lent (now (staging .exit)) (now (tape0 .exit)) (now (tape1 .exit)) (now (tape2 .exit)) (now (tape3 .exit))) ⌝ }
 {
     let short = short(tape0.len(), tape1.len(), tape2.len(), tape3.len());
     let possible = possible(core);
@@ -98,7 +101,10 @@ pub fn step(
     tape3: &mut [u8],
     event: &[u8],
 ) -> Outcome
-    ensures { λ r. ⌜ Steps (unit .core) (lent (unit .staging) (now (tape0 .entry)) (now (tape1 .entry)) (now (tape2 .entry)) (now (tape3 .entry))) (now (event .entry)) (turnOfOutcome r) (lent (r .unit .staging) (now (tape0 .exit)) (now (tape1 .exit)) (now (tape2 .exit)) (now (tape3 .exit))) ⌝ }
+    ensures { λ r. ⌜ Steps (unit .core)
+        (lent (unit .staging) (now (tape0 .entry)) (now (tape1 .entry)) (now (tape2 .entry)) (now (tape3 .entry)))
+        (now (event .entry)) (turnOfOutcome r)
+        (lent (r .unit .staging) (now (tape0 .exit)) (now (tape1 .exit)) (now (tape2 .exit)) (now (tape3 .exit))) ⌝ }
 {
     let core = unit.core;
     let turn = step_core(core, &mut unit.staging, tape0, tape1, tape2, tape3, event);

@@ -55,7 +55,8 @@ pub(crate) fn next_byte(
     n: usize,
 ) -> Next
     requires { ⌜ n < lastPlace ⌝ }
-    ensures { λ r. ⌜ r ≡ nextOf (driveAt core (core .port .selected)) (oneOf (core .port .selected) (now (tape0 .entry)) (now (tape1 .entry)) (now (tape2 .entry)) (now (tape3 .entry))) n ⌝ }
+    ensures { λ r. ⌜ r ≡ nextOf (driveAt core (core .port .selected))
+        (oneOf (core .port .selected) (now (tape0 .entry)) (now (tape1 .entry)) (now (tape2 .entry)) (now (tape3 .entry))) n ⌝ }
 {
     let i = core.port.selected;
     match i {

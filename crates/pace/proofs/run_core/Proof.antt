@@ -13,7 +13,8 @@ use Rattle.pace.proofs.run_core.Tie as tie
 
 abbrev Inv-loop : tie.InvT-loop
 Inv-loop staging₀ tape0₀ tape1₀ tape2₀ tape3₀ pairs after₀ i₀ staging tape0 tape1 tape2 tape3 after i =
-    (run (world after (lent staging tape0 tape1 tape2 tape3)) (pairsOf (drop i pairs)) ≡ run (world after₀ (lent staging₀ tape0₀ tape1₀ tape2₀ tape3₀)) (pairsOf pairs))
+    (run (world after (lent staging tape0 tape1 tape2 tape3)) (pairsOf (drop i pairs)) ≡ run
+    (world after₀ (lent staging₀ tape0₀ tape1₀ tape2₀ tape3₀)) (pairsOf pairs))
     × ((i ≤ length pairs)
     × ((length tape0 ≡ length tape0₀) × ((length tape1 ≡ length tape1₀) × ((length tape2 ≡ length tape2₀) × (length tape3 ≡ length tape3₀)))))
 
@@ -48,13 +49,28 @@ step-core-requires : tie.Need-step-core-requires Inv-loop μ-loop
 step-core-requires c κs = search needs
 
 add-i : tie.Need-add-i Inv-loop μ-loop
-add-i c = omega (arith, c .before .before .before .before .before .before .before .before .before .before .before .before .before .before .before .before .before .before .loop-test .taken, c .before .before .before .before .before .before .before .before .before .before .before .before .before .before .before .before .before .before .before .before .before .before .before .before .before .good)
+add-i c =
+    let c18 =
+    c .before .before .before .before .before .before .before .before .before .before .before .before .before .before .before .before .before .before in
+    let c25 = c18 .before .before .before .before .before .before .before in
+    omega (arith, c18 .loop-test .taken, c25 .good)
 
 loop-less : tie.Need-loop-less Inv-loop μ-loop
 loop-less c = search needs
 
 loop-again : tie.Need-loop-again Inv-loop μ-loop
-loop-again c = let at = c .before .before .before .before .before .before .before .before .before .before .before .before .before .before .before .before .before .before .before .loop in (one-pair (at .after) _ (c .before .before .before .before .before .before .before .before .before .before .before .before .before .before .before .before .before .before .before .before .before .before .before .before .before .args .pairs .now) (at .i) _ _ _ _ (c .before .before .before .before .before .before .before .before .before .before .before .before .before .before .before .before .before .before .loop-test .taken) (c .before .before .before .before .before .before .before .before .before .before .before .before .before .before .before .before .kind-size .ensures .0) (c .before .before .before .before .before .before .before .before .before .before .before .before .before .before .before .before .kind-size .ensures .1) refl (c .before .before .before .before .before .before .before .before .before .step-core .ensures) ∙ at .inv .0, (omega (arith, c .before .before .before .before .before .before .before .before .before .before .before .before .before .before .before .before .before .before .loop-test .taken), search needs))
+loop-again c =
+    let c9 = c .before .before .before .before .before .before .before .before .before in
+    let c16 = c9 .before .before .before .before .before .before .before in
+    let c19 = c16 .before .before .before in
+    let c25 = c19 .before .before .before .before .before .before in
+    let at = c19 .loop in
+    let test = c16 .before .before .loop-test .taken in
+    let size = c16 .kind-size .ensures in
+    let kept = c9 .step-core .kept .1 .1 in
+    let same = at .inv .1 .1 in
+    let runs = one-pair (at .after) _ (c25 .args .pairs .now) (at .i) _ _ _ _ test (size .0) (size .1) refl (c9 .step-core .ensures) in
+    (runs ∙ at .inv .0, (omega (arith, test), (kept .0 ∙ same .0, (kept .1 .0 ∙ same .1 .0, (kept .1 .1 .0 ∙ same .1 .1 .0, kept .1 .1 .1 .0 ∙ same .1 .1 .1)))))
 
 same-length : tie.Need-same-length Inv-loop μ-loop
 same-length c = search needs
@@ -69,7 +85,9 @@ same-length-4 : tie.Need-same-length-4 Inv-loop μ-loop
 same-length-4 c = search needs
 
 returns : tie.Need-returns Inv-loop μ-loop
-returns c = rw (pairs-end (c .before .before .before .before .before .before .before .args .pairs .now) (c .before .loop .i) (c .loop-test .left)) at (c .before .loop .inv .0)
+returns c =
+    let c7 = c .before .before .before .before .before .before .before in
+    rw (pairs-end (c7 .args .pairs .now) (c .before .loop .i) (c .loop-test .left)) at (c .before .loop .inv .0)
 
 pub run-core-spec : {M : Type 1} → statement M
 run-core-spec =

@@ -13,7 +13,8 @@ use Rattle.pace.proofs.run_unit.Tie as tie
 
 abbrev Inv-loop : tie.InvT-loop
 Inv-loop tape0₀ tape1₀ tape2₀ tape3₀ pairs after₀ i₀ tape0 tape1 tape2 tape3 after i =
-    (run (world (after .core) (lent (after .staging) tape0 tape1 tape2 tape3)) (pairsOf (drop i pairs)) ≡ run (world (after₀ .core) (lent (after₀ .staging) tape0₀ tape1₀ tape2₀ tape3₀)) (pairsOf pairs))
+    (run (world (after .core) (lent (after .staging) tape0 tape1 tape2 tape3)) (pairsOf (drop i pairs)) ≡ run
+    (world (after₀ .core) (lent (after₀ .staging) tape0₀ tape1₀ tape2₀ tape3₀)) (pairsOf pairs))
     × ((i ≤ length pairs)
     × ((length tape0 ≡ length tape0₀) × ((length tape1 ≡ length tape1₀) × ((length tape2 ≡ length tape2₀) × (length tape3 ≡ length tape3₀)))))
 
@@ -48,13 +49,29 @@ step-requires : tie.Need-step-requires Inv-loop μ-loop
 step-requires c κs = search needs
 
 add-i : tie.Need-add-i Inv-loop μ-loop
-add-i c = omega (arith, c .before .before .before .before .before .before .before .before .before .before .before .before .before .before .before .before .before .loop-test .taken, c .before .before .before .before .before .before .before .before .before .before .before .before .before .before .before .before .before .before .before .before .before .before .before .before .good)
+add-i c =
+    let c17 =
+    c .before .before .before .before .before .before .before .before .before .before .before .before .before .before .before .before .before
+    in
+    let c24 = c17 .before .before .before .before .before .before .before in
+    omega (arith, c17 .loop-test .taken, c24 .good)
 
 loop-less : tie.Need-loop-less Inv-loop μ-loop
 loop-less c = search needs
 
 loop-again : tie.Need-loop-again Inv-loop μ-loop
-loop-again c = let at = c .before .before .before .before .before .before .before .before .before .before .before .before .before .before .before .before .before .before .loop in (one-pair (at .after .core) _ (c .before .before .before .before .before .before .before .before .before .before .before .before .before .before .before .before .before .before .before .before .before .before .before .before .args .pairs .now) (at .i) _ _ _ _ (c .before .before .before .before .before .before .before .before .before .before .before .before .before .before .before .before .before .loop-test .taken) (c .before .before .before .before .before .before .before .before .before .before .before .before .before .before .before .kind-size .ensures .0) (c .before .before .before .before .before .before .before .before .before .before .before .before .before .before .before .kind-size .ensures .1) refl (c .before .before .before .before .before .before .before .before .before .step .ensures) ∙ at .inv .0, (omega (arith, c .before .before .before .before .before .before .before .before .before .before .before .before .before .before .before .before .before .loop-test .taken), search needs))
+loop-again c =
+    let c9 = c .before .before .before .before .before .before .before .before .before in
+    let c15 = c9 .before .before .before .before .before .before in
+    let c18 = c15 .before .before .before in
+    let c24 = c18 .before .before .before .before .before .before in
+    let at = c18 .loop in
+    let test = c15 .before .before .loop-test .taken in
+    let size = c15 .kind-size .ensures in
+    let kept = c9 .step .kept .1 in
+    let same = at .inv .1 .1 in
+    let runs = one-pair (at .after .core) _ (c24 .args .pairs .now) (at .i) _ _ _ _ test (size .0) (size .1) refl (c9 .step .ensures) in
+    (runs ∙ at .inv .0, (omega (arith, test), (kept .0 ∙ same .0, (kept .1 .0 ∙ same .1 .0, (kept .1 .1 .0 ∙ same .1 .1 .0, kept .1 .1 .1 .0 ∙ same .1 .1 .1)))))
 
 same-length : tie.Need-same-length Inv-loop μ-loop
 same-length c = search needs
@@ -69,7 +86,9 @@ same-length-4 : tie.Need-same-length-4 Inv-loop μ-loop
 same-length-4 c = search needs
 
 returns : tie.Need-returns Inv-loop μ-loop
-returns c = rw (pairs-end (c .before .before .before .before .before .before .before .args .pairs .now) (c .before .loop .i) (c .loop-test .left)) at (c .before .loop .inv .0)
+returns c =
+    let c7 = c .before .before .before .before .before .before .before in
+    rw (pairs-end (c7 .args .pairs .now) (c .before .loop .i) (c .loop-test .left)) at (c .before .loop .inv .0)
 
 pub run-unit-spec : {M : Type 1} → statement M
 run-unit-spec =

@@ -31,16 +31,22 @@ octetsIn (Status k) o = o
 abbrev pub pending : ℕ → World → Option Pending
 pending d w =
     pick (eqb (w .core .port .selected) d)
-    (some (record { phase = w .core .port .phase; part = take (givenBefore (w .core .port .phase)) (w .lent .staging); octets = octetsIn (w .core .port .phase) (w .core .port .octets) }))
+    (some (record {
+      phase = w .core .port .phase;
+      part = take (givenBefore (w .core .port .phase)) (w .lent .staging);
+      octets = octetsIn (w .core .port .phase) (w .core .port .octets);
+    }))
     none
 
--- Two worlds in which drive d ends the same: its whole record (head, both counts, latched bits, EXCEPTION, mode, cartridge, plug), its tape, and what it still has to give.
+-- Two worlds in which drive d ends the same:
+-- its whole record (head, both counts, latched bits, EXCEPTION, mode, cartridge, plug), its tape, and what it still has to give.
 pub record Alike (d : ℕ) (w w′ : World) : Type 0 where
   pub drive : driveAt (w .core) d ≡ driveAt (w′ .core) d
   pub tape : tapeAt (w .lent) d ≡ tapeAt (w′ .lent) d
   pub still : pending d w ≡ pending d w′
 
--- One drive, two runs from a fresh unit with any tapes of allowed length that agree on that drive's, any events: where the same events reach the drive in the same order,
+-- One drive, two runs from a fresh unit with any tapes of allowed length that agree on that drive's, any events:
+-- where the same events reach the drive in the same order,
 -- it ends the same and gave the same.
 pub record SameFate (r : Change) (d : ℕ) (w w′ : World) (es es′ : List (List ℕ)) : Type 0 where
   pub ends : Alike d (run w es) (run w′ es′)
@@ -62,7 +68,8 @@ Demand3 = Demand3For realChange
 abbrev pub Demand3AnyLevel : Type 0
 Demand3AnyLevel = Demand3For anyLevel
 
--- What a buyer asks: events put in between, for the other drives, that leave alone what reaches drive d, change not one byte of what it reports or holds.
+-- What a buyer asks: events put in between, for the other drives, that leave alone what reaches drive d,
+-- change not one byte of what it reports or holds.
 abbrev pub OthersDoNotMatter : Type 0
 OthersDoNotMatter =
     (d : ℕ) → d ≤ 3 → (a b c e : List ℕ) → short (freshWorld a b c e .lent) ≡ true

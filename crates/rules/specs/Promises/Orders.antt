@@ -34,7 +34,8 @@ IllegalChangesNothing = (g : List ℕ) (s : Seat) (c : ℕ) → firstFour s (ord
 -- No other order latches it.
 abbrev pub LegalLatchesNoIll : Type 0
 LegalLatchesNoIll =
-    (g : List ℕ) (s : Seat) (c : ℕ) → firstFour s (orderOf c) ≡ false → act g s (Command c) .moved .drive .latched .ill ≡ true → s .drive .latched .ill ≡ true
+    (g : List ℕ) (s : Seat) (c : ℕ) → firstFour s (orderOf c) ≡ false → act g s (Command c) .moved .drive .latched .ill ≡ true
+    → s .drive .latched .ill ≡ true
 
 -- READ STATUS passes all seven tests in every record.
 abbrev pub StatusPasses : Type 0

@@ -30,7 +30,8 @@ LinesDownAfter5 = (c : Core) (l : Lent) (event : List ℕ) → answerTo c l even
 
 abbrev pub LinesOfTheRecord : Type 0
 LinesOfTheRecord =
-    (c : Core) (l : Lent) (event : List ℕ) → (answerTo c l event ≡ Impossible → ⊥) → stepOf c l event .turn .lines ≡ linesOf (stepOf c l event .turn .core)
+    (c : Core) (l : Lent) (event : List ℕ) → (answerTo c l event ≡ Impossible → ⊥)
+    → stepOf c l event .turn .lines ≡ linesOf (stepOf c l event .turn .core)
 
 -- A byte comes with event 03 alone; with answer 1 only as byte 512 of a block. Where none comes it is 0.
 pub record ByteRules (c : Core) (l : Lent) (event : List ℕ) : Type 0 where

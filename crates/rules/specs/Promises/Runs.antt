@@ -91,7 +91,8 @@ wanted c = record { octets = c .octets; tape = c .after }
 abbrev pub StarredRunsHold : Type 0
 StarredRunsHold = map shownBy starred ≡ map wanted starred
 
--- The runs without a mark, and 'Easy to get wrong': the events, and the number of the last answer, the octets made last, the heads of drives 0 and 1 and their tapes.
+-- The runs without a mark, and 'Easy to get wrong':
+-- the events, and the number of the last answer, the octets made last, the heads of drives 0 and 1 and their tapes.
 pub record Run : Type 0 where
   pub tapes : World
   pub events : List (List ℕ)
@@ -115,7 +116,8 @@ lastAnswer (r ∷ (s ∷ rs)) = lastAnswer (s ∷ rs)
 abbrev pub endOf : Run → Ending
 endOf r =
     let w = run (r .tapes) (r .events) in
-    ends (lastAnswer (turns (r .tapes) (r .events))) (w .core .port .octets) (w .core .drive0 .head) (w .core .drive1 .head) (w .lent .tape0) (w .lent .tape1)
+    ends (lastAnswer (turns (r .tapes) (r .events))) (w .core .port .octets) (w .core .drive0 .head) (w .core .drive1 .head) (w .lent .tape0)
+    (w .lent .tape1)
 
 abbrev pub from : ℕ → ℕ → List (List ℕ) → Run
 from n m es = record { tapes = freshWorld (replicate n 0) (replicate m 0) [] []; events = es }

@@ -71,11 +71,14 @@ pub record Table (c : Core) (l : Lent) (event : List ℕ) : Type 0 where
   pub line2 : (answerTo c l event ≡ OutOfStep)
       ↔ ((impossible c ≡ false) × (tooLong l ≡ false) × (malformed (eventOf event) ≡ false) × (outOfStep c (eventOf event) ≡ true))
   pub line3 : (answerTo c l event ≡ WrongSlot)
-      ↔ ((impossible c ≡ false) × (tooLong l ≡ false) × (malformed (eventOf event) ≡ false) × (outOfStep c (eventOf event) ≡ false) × (wrongSlot c (eventOf event) ≡ true))
+      ↔ ((impossible c ≡ false) × (tooLong l ≡ false) × (malformed (eventOf event) ≡ false) × (outOfStep c (eventOf event) ≡ false)
+      × (wrongSlot c (eventOf event) ≡ true))
   pub line1 : (answerTo c l event ≡ Raised)
-      ↔ ((impossible c ≡ false) × (tooLong l ≡ false) × (malformed (eventOf event) ≡ false) × (outOfStep c (eventOf event) ≡ false) × (wrongSlot c (eventOf event) ≡ false) × (raises c l (eventOf event) ≡ true))
+      ↔ ((impossible c ≡ false) × (tooLong l ≡ false) × (malformed (eventOf event) ≡ false) × (outOfStep c (eventOf event) ≡ false)
+      × (wrongSlot c (eventOf event) ≡ false) × (raises c l (eventOf event) ≡ true))
   pub line0 : (answerTo c l event ≡ Taken)
-      ↔ ((impossible c ≡ false) × (tooLong l ≡ false) × (malformed (eventOf event) ≡ false) × (outOfStep c (eventOf event) ≡ false) × (wrongSlot c (eventOf event) ≡ false) × (raises c l (eventOf event) ≡ false))
+      ↔ ((impossible c ≡ false) × (tooLong l ≡ false) × (malformed (eventOf event) ≡ false) × (outOfStep c (eventOf event) ≡ false)
+      × (wrongSlot c (eventOf event) ≡ false) × (raises c l (eventOf event) ≡ false))
 
 abbrev pub AnswersByTheTable : Type 0
 AnswersByTheTable = (c : Core) (l : Lent) (event : List ℕ) → Table c l event

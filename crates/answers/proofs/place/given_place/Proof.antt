@@ -15,7 +15,10 @@ only-at-requires : tie.Need-only-at-requires
 only-at-requires c κs = search needs
 
 returns : tie.Need-returns
-returns c = (rw (c .only-at .ensures .0, c .before .within .ensures .0, c .before .before .given-before .ensures) refl, omega (arith, c .only-at .ensures .1, c .before .within .ensures .1))
+returns c = (
+  rw (c .only-at .ensures .0, c .before .within .ensures .0, c .before .before .given-before .ensures) refl,
+  omega (arith, c .only-at .ensures .1, c .before .within .ensures .1),
+)
 
 pub given-place-spec : {M : Type 1} → statement M
 given-place-spec =

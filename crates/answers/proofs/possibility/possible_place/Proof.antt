@@ -34,7 +34,12 @@ unfolding oneOf pick
 returns-3 c = rw (c .possible-at3 .ensures, c .before .match .keys3)
 
 returns-4 : tie.Need-returns-4
-returns-4 c = let no = c .before .match .rest in let a = c .before .before .before .args in c .possible-at4 .ensures ∙ ap (λ (d : Drive). possiblePhase (a .core .port .phase) (d .mode)) (sym (last-one (a .core .port .selected) _ _ _ _ (no .0 .0 .1) (no .0 .1) (no .1)))
+returns-4 c =
+    let no = c .before .match .rest in
+    let a = c .before .before .before .args in
+    c .possible-at4 .ensures
+    ∙ ap (λ (d : Drive). possiblePhase (a .core .port .phase) (d .mode))
+    (sym (last-one (a .core .port .selected) _ _ _ _ (no .0 .0 .1) (no .0 .1) (no .1)))
 
 pub possible-place-spec : {M : Type 1} → statement M
 possible-place-spec =

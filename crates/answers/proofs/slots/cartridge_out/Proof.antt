@@ -18,7 +18,9 @@ put-requires : tie.Need-put-requires
 put-requires c κs = search needs
 
 returns : tie.Need-returns
-returns c = rw (c .put .ensures, c .before .unload .ensures, c .before .before .drive .ensures, c .before .before .before .at-phase .ensures, c .before .before .before .before .phase-after .ensures)
+returns c =
+    let c3 = c .before .before .before in
+    rw (c .put .ensures, c .before .unload .ensures, c .before .before .drive .ensures, c3 .at-phase .ensures, c3 .before .phase-after .ensures)
 
 pub cartridge-out-spec : {M : Type 1} → statement M
 cartridge-out-spec =

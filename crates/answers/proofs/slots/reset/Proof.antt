@@ -25,7 +25,8 @@ returns c =
     let a = c .before .before .before .before .args in
     λ l.
     ap (λ (x : Turn). stepped x l) (c .refuse .ensures)
-    ∙ refused-by (a .core) (a .possible) (a .short) Reset _ (c .before .before .before .refusal-by .ensures) (told (c .before .before .refuses .ensures) (c .before .if1 .taken)) l
+    ∙ refused-by (a .core) (a .possible) (a .short) Reset _ (c .before .before .before .refusal-by .ensures)
+    (told (c .before .before .refuses .ensures) (c .before .if1 .taken)) l
 
 reset-requires : tie.Need-reset-requires
 reset-requires c κs = search needs
@@ -38,7 +39,8 @@ returns-2 c =
     let a = c .before .before .before .before .before .args in
     λ l.
     ap (λ (x : Turn). stepped x l) (c .done .ensures ∙ ap (λ (x : Core). takenTurn true false 0 x) (c .before .reset .ensures))
-    ∙ taken-by (a .core) (a .possible) (a .short) Reset _ (c .before .before .before .before .refusal-by .ensures) (told (c .before .before .before .refuses .ensures) (c .before .before .if1 .left)) l
+    ∙ taken-by (a .core) (a .possible) (a .short) Reset _ (c .before .before .before .before .refusal-by .ensures)
+    (told (c .before .before .before .refuses .ensures) (c .before .before .if1 .left)) l
 
 pub reset-spec : {M : Type 1} → statement M
 reset-spec =

@@ -33,7 +33,8 @@ returns c =
     let answer = rw (tried .before .slot-answer .ensures, tried .before .before .look .ensures) at (tried .refusal-by .ensures) in
     λ l.
     ap (λ (x : Turn). stepped x l) (c .refuse .ensures)
-    ∙ refused-by (a .core) (a .possible) (a .short) (Named (a .i) (a .what)) _ answer (told (c .before .before .refuses .ensures) (c .before .if1 .taken)) l
+    ∙ refused-by (a .core) (a .possible) (a .short) (Named (a .i) (a .what)) _ answer
+    (told (c .before .before .refuses .ensures) (c .before .if1 .taken)) l
 
 is-out-requires : tie.Need-is-out-requires
 is-out-requires c κs = search needs
@@ -52,7 +53,8 @@ returns-2 c =
     let left = ap₂ (λ (x : Bool) (y : Core). takenTurn x false 0 y) (c .before .before .is-out .ensures) (c .before .befall .ensures) in
     λ l.
     ap (λ (x : Turn). stepped x l) (c .done .ensures ∙ left)
-    ∙ taken-by (a .core) (a .possible) (a .short) (Named (a .i) (a .what)) _ answer (told (c .before .before .before .before .refuses .ensures) (c .before .before .before .if1 .left)) l
+    ∙ taken-by (a .core) (a .possible) (a .short) (Named (a .i) (a .what)) _ answer
+    (told (c .before .before .before .before .refuses .ensures) (c .before .before .before .if1 .left)) l
 
 pub slot-spec : {M : Type 1} → statement M
 slot-spec =

@@ -17,7 +17,9 @@ reads-requires c κs = search needs
 
 returns : tie.Need-returns
 unfolding linesOf
-returns c = rw (c .before .reads .ensures, c .before .before .is-status .ensures, c .before .before .before .rest-or-status .ensures, c .before .before .before .before .drive .ensures)
+returns c =
+    let c3 = c .before .before .before in
+    rw (c .before .reads .ensures, c .before .before .is-status .ensures, c3 .rest-or-status .ensures, c3 .before .drive .ensures)
 
 pub lines-spec : {M : Type 1} → statement M
 lines-spec =

@@ -13,7 +13,8 @@ use Rattle.basis.proofs.number.put_number.Statement.{statement}
 use Rattle.basis.proofs.number.put_number.Tie as tie
 
 abbrev Inv-loop : tie.InvT-loop
-Inv-loop out₀ at n k i₀ rest₀ out i rest = (i ≡ length (decimal rest)) × (i ≤ k) × (length out ≡ length out₀) × (sets out at (decimal rest) ≡ sets out₀ at (decimal n))
+Inv-loop out₀ at n k i₀ rest₀ out i rest =
+    (i ≡ length (decimal rest)) × (i ≤ k) × (length out ≡ length out₀) × (sets out at (decimal rest) ≡ sets out₀ at (decimal n))
 
 abbrev μ-loop : tie.MeasureT-loop
 μ-loop out₀ at n k i₀ rest₀ out i rest = rest
@@ -40,7 +41,20 @@ loop-less : tie.Need-loop-less Inv-loop μ-loop
 loop-less c = div-lt-self {n = c .before .before .loop .rest} {k = 10} (omega arith) (omega arith)
 
 loop-again : tie.Need-loop-again Inv-loop μ-loop
-loop-again c = let l = c .before .before .loop in let a = c .before .before .before .before .args in let t = c .before .loop-test .taken in let m = one-more (l .rest) t in let e : l .i - 1 ≡ length (decimal (l .rest / 10)) = omega arith in (e, omega arith, simp length-set (l .inv .2), rw (c .digit .ensures, e) (sets-snoc (decimal (l .rest / 10)) (l .out) (a .at) (digit (l .rest % 10)) ∙ ap (λ (x : List ℕ). sets (l .out) (a .at) x) (sym (decimal-more (l .rest) t)) ∙ l .inv .3))
+loop-again c =
+    let c4 = c .before .before .before .before in
+    let l = c .before .before .loop in
+    let a = c4 .args in
+    let t = c .before .loop-test .taken in
+    let m = one-more (l .rest) t in
+    let e : l .i - 1 ≡ length (decimal (l .rest / 10)) = omega arith in (
+      e,
+      omega arith,
+      simp length-set (l .inv .2),
+      rw (c .digit .ensures, e)
+          (sets-snoc (decimal (l .rest / 10)) (l .out) (a .at) (digit (l .rest % 10))
+          ∙ ap (λ (x : List ℕ). sets (l .out) (a .at) x) (sym (decimal-more (l .rest) t)) ∙ l .inv .3),
+    )
 
 cast-digit-2 : tie.Need-cast-digit-2 Inv-loop μ-loop
 cast-digit-2 c = search needs
@@ -55,7 +69,12 @@ same-length : tie.Need-same-length Inv-loop μ-loop
 same-length c = simp length-set (c .before .before .loop .inv .2)
 
 returns : tie.Need-returns Inv-loop μ-loop
-returns c = let l = c .before .before .loop in let a = c .before .before .before .before .args in rw (c .digit2 .ensures) (ap (λ (x : List ℕ). sets (l .out) (a .at) x) (sym (decimal-last (l .rest) (c .before .loop-test .left))) ∙ l .inv .3 ∙ sym (placed-sets (a .out .now) (a .at) (decimal (a .n)) (omega arith)))
+returns c =
+    let c4 = c .before .before .before .before in
+    let l = c .before .before .loop in
+    let a = c4 .args in
+    rw (c .digit2 .ensures) (ap (λ (x : List ℕ). sets (l .out) (a .at) x) (sym (decimal-last (l .rest) (c .before .loop-test .left))) ∙ l .inv .3
+    ∙ sym (placed-sets (a .out .now) (a .at) (decimal (a .n)) (omega arith)))
 
 pub put-number-spec : {M : Type 1} → statement M
 put-number-spec =

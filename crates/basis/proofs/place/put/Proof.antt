@@ -35,13 +35,24 @@ loop-less : tie.Need-loop-less Inv-loop μ-loop
 loop-less c = search needs
 
 loop-again : tie.Need-loop-again Inv-loop μ-loop
-loop-again c = let a = c .before .before .before .args in let i = c .before .before .loop .i in let inv = c .before .before .loop .inv in (omega arith, simp length-set (inv .1), ap (λ (l : List ℕ). set l (a .at + i) (getD (a .bytes .now) i 0)) (inv .2) ∙ rw add-one (paste-suc (a .out .now) (a .at) (a .bytes .now) i 0 (omega arith) (omega arith)))
+loop-again c =
+    let a = c .before .before .before .args in
+    let i = c .before .before .loop .i in
+    let inv = c .before .before .loop .inv in (
+      omega arith,
+      simp length-set (inv .1),
+      ap (λ (l : List ℕ). set l (a .at + i) (getD (a .bytes .now) i 0)) (inv .2)
+          ∙ rw add-one (paste-suc (a .out .now) (a .at) (a .bytes .now) i 0 (omega arith) (omega arith)),
+    )
 
 same-length : tie.Need-same-length Inv-loop μ-loop
 same-length c = search needs
 
 returns : tie.Need-returns Inv-loop μ-loop
-returns c = let a = c .before .before .args in let e : c .before .loop .i ≡ length (a .bytes .now) = omega arith in c .before .loop .inv .2 ∙ rw e (pasted (a .out .now) (a .at) (a .bytes .now))
+returns c =
+    let a = c .before .before .args in
+    let e : c .before .loop .i ≡ length (a .bytes .now) = omega arith in
+    c .before .loop .inv .2 ∙ rw e (pasted (a .out .now) (a .at) (a .bytes .now))
 
 pub put-spec : {M : Type 1} → statement M
 put-spec =

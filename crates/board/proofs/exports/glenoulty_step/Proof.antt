@@ -14,7 +14,8 @@ serve-requires : tie.Need-serve-requires
 serve-requires c κs =
     let taken = c .before .before .before .before .before in
     let asked = taken .before in
-    record-long (asked .before .before .before .before .before .before .before .before .args .buffer .now) (told (asked .is-record .ensures) (taken .if1 .taken))
+    record-long (asked .before .before .before .before .before .before .before .before .args .buffer .now)
+    (told (asked .is-record .ensures) (taken .if1 .taken))
 
 no-record-requires : tie.Need-no-record-requires
 no-record-requires c κs = search needs

@@ -39,7 +39,9 @@ returns c = rw (← c .before .before .found-at .ensures, c .enum-told .given .1
 
 returns-2 : tie.Need-returns-2
 unfolding checked
-returns-2 c = rw (c .stop .ensures, c .before .pass-to .ensures, ← c .before .before .before .before .found-at .ensures, c .before .before .enum-told2 .given .1)
+returns-2 c =
+    let c4 = c .before .before .before .before in
+    rw (c .stop .ensures, c .before .pass-to .ensures, ← c4 .found-at .ensures, c .before .before .enum-told2 .given .1)
 
 returns-3 : tie.Need-returns-3
 unfolding checked

@@ -82,7 +82,9 @@ returns : tie.Need-returns
 returns c = rw (c .rests .ensures, c .before .enum-told .given .1)
 
 returns-2 : tie.Need-returns-2
-returns-2 c = rw (c .leaves .ensures, c .before .select .ensures, c .before .before .at-drive .ensures, c .before .before .before .before .order .given .1)
+returns-2 c =
+    let c4 = c .before .before .before .before in
+    rw (c .leaves .ensures, c .before .select .ensures, c .before .before .at-drive .ensures, c4 .order .given .1)
 
 returns-3 : tie.Need-returns-3
 returns-3 c = rw (c .rests2 .ensures, c .before .rewind .ensures, c .before .before .enum-told2 .given .1)

@@ -15,7 +15,8 @@ leaves-requires : tie.Need-leaves-requires
 leaves-requires c κs = search needs
 
 returns : tie.Need-returns
-returns c = λ t. rw (c .leaves .ensures, c .before .clear-status .ensures, c .before .before .show .ensures, c .before .before .before .octets .ensures)
+returns c =
+    λ t. rw (c .leaves .ensures, c .before .clear-status .ensures, c .before .before .show .ensures, c .before .before .before .octets .ensures)
 
 pub read-status-spec : {M : Type 1} → statement M
 read-status-spec =

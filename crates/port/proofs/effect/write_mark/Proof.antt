@@ -40,9 +40,18 @@ returns : tie.Need-returns
 unfolding pick
 returns c =
     let a = c .before .before .before .before .before .before .before .before .before .before .before .args in
-    let w = rw (c .before .before .before .before .made .given .1) at (c .before .before .before .before .before .before .before .before .record-mark .ensures) in
+    let w = rw (c .before .before .before .before .made .given .1) at
+    (c .before .before .before .before .before .before .before .before .record-mark .ensures) in
     let m = next-means (a .tape .now) (a .drive .head) markSize 0 markRecord _ _ w in
-    rw (c .rests .ensures, c .before .in-mode .ensures, c .before .before .made2 .ensures, le-leb (a .drive .head + markRoom) (length (a .tape .now)) (m .room), m .next-is, m .tape-is)
+    rw (
+      c .rests .ensures,
+      c .before .in-mode .ensures,
+      c .before .before .made2 .ensures,
+      le-leb (a .drive .head + markRoom)
+          (length (a .tape .now)) (m .room),
+      m .next-is,
+      m .tape-is,
+    )
 
 same-length-2 : tie.Need-same-length-2
 same-length-2 c = search needs

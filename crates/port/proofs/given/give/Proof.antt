@@ -18,7 +18,14 @@ leaves-requires c κs = search needs
 
 returns : tie.Need-returns
 unfolding pick
-returns c = rw (c .leaves .ensures, c .before .at-phase .ensures, ← c .before .before .before .given-before .ensures, lt-ltb _ _ (c .before .before .if1 .taken))
+returns c =
+    rw (
+      c .leaves .ensures,
+      c .before .at-phase .ensures,
+      ← c .before .before .before .given-before .ensures,
+      lt-ltb _ _
+          (c .before .before .if1 .taken),
+    )
 
 at-phase-requires-2 : tie.Need-at-phase-requires-2
 at-phase-requires-2 c κs = search needs
@@ -33,7 +40,12 @@ returns-2 : tie.Need-returns-2
 unfolding pick
 returns-2 c =
     let n = c .before .before .before .before .before in
-    rw (← n .before .given-before .ensures, le-ltb _ _ (n .if1 .left), ← c .before .before .before .before .at-phase2 .ensures, c .before .before .store .ensures)
+    rw (
+      ← n .before .given-before .ensures,
+      le-ltb _ _ (n .if1 .left),
+      ← c .before .before .before .before .at-phase2 .ensures,
+      c .before .before .store .ensures,
+    )
 
 pub give-spec : {M : Type 1} → statement M
 give-spec =

@@ -31,7 +31,8 @@ same-length c = search needs
 returns : tie.Need-returns
 returns c =
     let a = c .before .before .before .before .before .before .before .before .before .before .before .args in
-    let w = rw (c .before .before .before .before .made .given .1) at (c .before .before .before .before .before .before .before .before .record-block .ensures) in
+    let w = rw (c .before .before .before .before .made .given .1) at
+    (c .before .before .before .before .before .before .before .before .record-block .ensures) in
     rw (c .after-block .ensures, c .before .before .made2 .ensures) (block-stored (a .staging .now) (a .port) (a .drive) (a .tape .now) _ _ w)
 
 same-length-2 : tie.Need-same-length-2

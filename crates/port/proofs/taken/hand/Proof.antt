@@ -52,7 +52,14 @@ returns-2 : tie.Need-returns-2
 unfolding pick handed
 returns-2 c =
     let past = c .before .before .before .before in
-    rw (c .hands2 .ensures, c .before .at-phase2 .ensures, ← past .before .pass-to .ensures, ← past .check .ensures, le-ltb _ _ (past .before .before .if1 .left))
+    rw (
+      c .hands2 .ensures,
+      c .before .at-phase2 .ensures,
+      ← past .before .pass-to .ensures,
+      ← past .check .ensures,
+      le-ltb _ _
+          (past .before .before .if1 .left),
+    )
 
 pub hand-spec : {M : Type 1} → statement M
 hand-spec =

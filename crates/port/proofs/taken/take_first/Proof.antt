@@ -12,7 +12,10 @@ rests-requires : tie.Need-rests-requires
 rests-requires c κs = search needs
 
 hand-requires : tie.Need-hand-requires
-hand-requires c κs = let a = c .before .before .before .before .args in unraised (a .tape .now) (a .drive) (rw (← c .before .before .check .ensures) (c .if1 .left))
+hand-requires c κs =
+    let c4 = c .before .before .before .before in
+    let a = c4 .args in
+    unraised (a .tape .now) (a .drive) (rw (← c .before .before .check .ensures) (c .if1 .left))
 
 returns : tie.Need-returns
 unfolding pick

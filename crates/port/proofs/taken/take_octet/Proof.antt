@@ -17,7 +17,13 @@ hands-requires c κs = search needs
 
 returns : tie.Need-returns
 unfolding octetTaken
-returns c = λ t. rw (c .hands .ensures, c .before .at-phase .ensures, c .before .before .after-octet .ensures, c .before .before .before .next-octet .ensures)
+returns c =
+    λ t. rw (
+      c .hands .ensures,
+      c .before .at-phase .ensures,
+      c .before .before .after-octet .ensures,
+      c .before .before .before .next-octet .ensures,
+    )
 
 pub take-octet-spec : {M : Type 1} → statement M
 take-octet-spec =

@@ -25,13 +25,22 @@ enum-told : tie.Need-enum-told Inv-loop μ-loop
 enum-told c = search needs
 
 add-at : tie.Need-add-at Inv-loop μ-loop
-add-at c = let s = c .before .before .before .before .loop .inv .far in omega (arith, block-fits _ _ (sym (c .before .before .found-at .ensures) ∙ c .enum-told .given .1))
+add-at c =
+    let c4 = c .before .before .before .before in
+    let s = c4 .loop .inv .far in
+    omega (arith, block-fits _ _ (sym (c .before .before .found-at .ensures) ∙ c .enum-told .given .1))
 
 add-records : tie.Need-add-records Inv-loop μ-loop
-add-records c = let s = c .before .before .before .before .loop .inv .far in omega (arith, block-fits _ _ (sym (c .before .before .found-at .ensures) ∙ c .enum-told .given .1))
+add-records c =
+    let c4 = c .before .before .before .before in
+    let s = c4 .loop .inv .far in
+    omega (arith, block-fits _ _ (sym (c .before .before .found-at .ensures) ∙ c .enum-told .given .1))
 
 loop-less : tie.Need-loop-less Inv-loop μ-loop
-loop-less c = let s = c .before .before .before .before .loop .inv .far in omega (arith, block-fits _ _ (sym (c .before .before .found-at .ensures) ∙ c .enum-told .given .1))
+loop-less c =
+    let c4 = c .before .before .before .before in
+    let s = c4 .loop .inv .far in
+    omega (arith, block-fits _ _ (sym (c .before .before .found-at .ensures) ∙ c .enum-told .given .1))
 
 loop-again : tie.Need-loop-again Inv-loop μ-loop
 loop-again c =
@@ -42,16 +51,25 @@ enum-told-2 : tie.Need-enum-told-2 Inv-loop μ-loop
 enum-told-2 c = search needs
 
 add-at-2 : tie.Need-add-at-2 Inv-loop μ-loop
-add-at-2 c = let s = c .before .before .before .before .loop .inv .far in omega (arith, mark-fits _ _ (sym (c .before .before .found-at .ensures) ∙ c .enum-told2 .given .1))
+add-at-2 c =
+    let c4 = c .before .before .before .before in
+    let s = c4 .loop .inv .far in
+    omega (arith, mark-fits _ _ (sym (c .before .before .found-at .ensures) ∙ c .enum-told2 .given .1))
 
 add-records-2 : tie.Need-add-records-2 Inv-loop μ-loop
-add-records-2 c = let s = c .before .before .before .before .loop .inv .far in omega (arith, mark-fits _ _ (sym (c .before .before .found-at .ensures) ∙ c .enum-told2 .given .1))
+add-records-2 c =
+    let c4 = c .before .before .before .before in
+    let s = c4 .loop .inv .far in
+    omega (arith, mark-fits _ _ (sym (c .before .before .found-at .ensures) ∙ c .enum-told2 .given .1))
 
 sub-left : tie.Need-sub-left Inv-loop μ-loop
 sub-left c = search needs
 
 loop-less-2 : tie.Need-loop-less-2 Inv-loop μ-loop
-loop-less-2 c = let s = c .before .before .before .before .loop .inv .far in omega (arith, mark-fits _ _ (sym (c .before .before .found-at .ensures) ∙ c .enum-told2 .given .1))
+loop-less-2 c =
+    let c4 = c .before .before .before .before in
+    let s = c4 .loop .inv .far in
+    omega (arith, mark-fits _ _ (sym (c .before .before .found-at .ensures) ∙ c .enum-told2 .given .1))
 
 loop-again-2 : tie.Need-loop-again-2 Inv-loop μ-loop
 loop-again-2 c =
@@ -67,7 +85,8 @@ sub-t11 c = c .before .before .before .before .before .loop .inv .few
 returns : tie.Need-returns Inv-loop μ-loop
 returns c =
     let test = c .before .before .before .before in
-    stopped-at _ _ _ _ _ _ _ (test .before .loop .inv) (test .loop-test .taken) (sym (c .before .before .before .found-at .ensures) ∙ c .before .f .given .1)
+    stopped-at _ _ _ _ _ _ _ (test .before .loop .inv) (test .loop-test .taken) (sym (c .before .before .before .found-at .ensures)
+    ∙ c .before .f .given .1)
 
 returns-2 : tie.Need-returns-2 Inv-loop μ-loop
 returns-2 c = past-all _ _ _ _ _ _ (c .before .loop .inv) (c .loop-test .left)

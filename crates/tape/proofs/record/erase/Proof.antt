@@ -28,7 +28,11 @@ loop-less : tie.Need-loop-less Inv-loop μ-loop
 loop-less c = search needs
 
 loop-again : tie.Need-loop-again Inv-loop μ-loop
-loop-again c = let t = c .before .before .args .tape .now in let i = c .before .loop .i in let inv = c .before .loop .inv in (ap (λ (l : List ℕ). set l i 0) (inv .0) ∙ fill-more i 0 t (omega arith), search needs)
+loop-again c =
+    let t = c .before .before .args .tape .now in
+    let i = c .before .loop .i in
+    let inv = c .before .loop .inv in
+    (ap (λ (l : List ℕ). set l i 0) (inv .0) ∙ fill-more i 0 t (omega arith), search needs)
 
 same-length : tie.Need-same-length Inv-loop μ-loop
 same-length c = search needs

@@ -39,16 +39,35 @@ loop-less : tie.Need-loop-less Inv-loop μ-loop
 loop-less c = search needs
 
 loop-again : tie.Need-loop-again Inv-loop μ-loop
-loop-again c = let a = c .before .before .before .before .before .args in let i = c .before .before .loop .i in let inv = c .before .before .loop .inv in (omega arith, (simp length-set (inv .1 .0 ∙ simp length-set), ap (λ (l : List ℕ). set l (1 + i) (getD (a .body .now) i 0)) (inv .1 .1) ∙ rw add-one (paste-suc (set (a .part .now) 0 1) 1 (a .body .now) i 0 (simp length-set (omega arith)) (omega arith))))
+loop-again c =
+    let c5 = c .before .before .before .before .before in
+    let a = c5 .args in
+    let i = c .before .before .loop .i in
+    let inv = c .before .before .loop .inv in (
+      omega arith,
+      (
+        simp length-set (inv .1 .0 ∙ simp length-set),
+        ap (λ (l : List ℕ). set l (1 + i) (getD (a .body .now) i 0)) (inv .1 .1)
+            ∙ rw add-one (paste-suc (set (a .part .now) 0 1) 1 (a .body .now) i 0 (simp length-set (omega arith)) (omega arith)),
+      ),
+    )
 
 end-at-requires : tie.Need-end-at-requires Inv-loop μ-loop
 end-at-requires c κs = search needs
 
 same-length : tie.Need-same-length Inv-loop μ-loop
-same-length c = omega (arith, c .before .before .end-at .kept .0, c .before .before .before .before .before .loop .inv .1 .0, length-set (c .before .before .before .before .before .before .before .before .args .part .now) 0 1)
+same-length c =
+    let c5 = c .before .before .before .before .before in
+    let c8 = c5 .before .before .before in
+    omega (arith, c .before .before .end-at .kept .0, c5 .loop .inv .1 .0, length-set (c8 .args .part .now) 0 1)
 
 returns : tie.Need-returns Inv-loop μ-loop
-returns c = let a = c .before .before .before .before .before .before .before .before .args in let e : c .before .before .before .before .before .loop .i ≡ 512 = omega arith in c .before .before .end-at .ensures ∙ rw (c .before .before .before .before .before .loop .inv .1 .1, e) (block-put (a .part .now) (a .body .now) (c .before .before .before .before .before .before .before .before .pre .1) (c .before .before .before .before .before .before .before .before .pre .0))
+returns c =
+    let c5 = c .before .before .before .before .before in
+    let c8 = c5 .before .before .before in
+    let a = c8 .args in
+    let e : c5 .loop .i ≡ 512 = omega arith in
+    c .before .before .end-at .ensures ∙ rw (c5 .loop .inv .1 .1, e) (block-put (a .part .now) (a .body .now) (c8 .pre .1) (c8 .pre .0))
 
 pub put-block-spec : {M : Type 1} → statement M
 put-block-spec =

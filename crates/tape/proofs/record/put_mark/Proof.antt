@@ -16,7 +16,9 @@ same-length : tie.Need-same-length
 same-length c = c .before .before .end-at .kept .0 ∙ simp length-set
 
 returns : tie.Need-returns
-returns c = c .before .before .end-at .ensures ∙ mark-put (c .before .before .before .before .before .args .part .now) (c .before .before .before .before .before .pre)
+returns c =
+    let c5 = c .before .before .before .before .before in
+    c .before .before .end-at .ensures ∙ mark-put (c5 .args .part .now) (c5 .pre)
 
 pub put-mark-spec : {M : Type 1} → statement M
 put-mark-spec = tie.close (tie.spec slice-write-part end-at-requires same-length returns)

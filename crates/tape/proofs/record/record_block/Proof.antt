@@ -8,7 +8,8 @@ use Rattle.tape.proofs.Parts.{roomy, full, made-with-room, none-without
 use Rattle.tape.proofs.record.record_block.Statement.{statement}
 use Rattle.tape.proofs.record.record_block.Tie as tie
 
-room : (c : tie.Then2) → c .before .before .before .before .args .head + (513 + c .before .before .before .before .args .spare) ≤ length (c .before .before .before .before .args .tape .now)
+room : (c : tie.Then2) → c .before .before .before .before .args .head + (513 + c .before .before .before .before .args .spare) ≤ length
+    (c .before .before .before .before .args .tape .now)
 room c =
     let a = c .before .before .before .before .args in
     omega (arith, roomy (a .head) 513 (length (a .tape .now) - a .spare) (c .before .has-room .ensures) (c .if2 .taken))

@@ -21,11 +21,15 @@ returns-2 c = rw (ne-eqb _ _ (c .before .before .before .if1 .left), ← c .befo
 
 returns-3 : tie.Need-returns-3
 unfolding cutOf cutBy pick
-returns-3 c = rw (ne-eqb _ _ (c .before .before .before .before .if1 .left), ← c .before .before .kind-size .ensures .0, ne-eqb _ _ (c .before .if2 .left), le-leb _ _ (c .if3 .taken))
+returns-3 c =
+    let c4 = c .before .before .before .before in
+    rw (ne-eqb _ _ (c4 .if1 .left), ← c .before .before .kind-size .ensures .0, ne-eqb _ _ (c .before .if2 .left), le-leb _ _ (c .if3 .taken))
 
 returns-4 : tie.Need-returns-4
 unfolding cutOf cutBy pick
-returns-4 c = rw (ne-eqb _ _ (c .before .before .before .before .if1 .left), ← c .before .before .kind-size .ensures .0, ne-eqb _ _ (c .before .if2 .left), lt-leb _ _ (c .if3 .left))
+returns-4 c =
+    let c4 = c .before .before .before .before in
+    rw (ne-eqb _ _ (c4 .if1 .left), ← c .before .before .kind-size .ensures .0, ne-eqb _ _ (c .before .if2 .left), lt-leb _ _ (c .if3 .left))
 
 pub next-event-spec : {M : Type 1} → statement M
 next-event-spec =

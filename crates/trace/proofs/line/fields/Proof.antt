@@ -33,7 +33,20 @@ or-dash-requires-5 c κs = search needs
 
 returns : tie.Need-returns
 unfolding fieldsOf
-returns c = rw (c .or-dash5 .ensures, c .before .or-dash4 .ensures, c .before .before .or-dash3 .ensures, c .before .before .before .or-dash2 .ensures, c .before .before .before .before .or-dash .ensures, c .before .before .before .before .before .low-digit .ensures, c .before .before .before .before .before .before .high-digit .ensures, c .before .before .before .before .before .before .before .digit .ensures, c .before .before .before .before .before .before .before .before .number .ensures)
+returns c =
+    let c3 = c .before .before .before in
+    let c6 = c3 .before .before .before in
+    rw (
+      c .or-dash5 .ensures,
+      c .before .or-dash4 .ensures,
+      c .before .before .or-dash3 .ensures,
+      c3 .or-dash2 .ensures,
+      c3 .before .or-dash .ensures,
+      c3 .before .before .low-digit .ensures,
+      c6 .high-digit .ensures,
+      c6 .before .digit .ensures,
+      c6 .before .before .number .ensures,
+    )
 
 pub fields-spec : {M : Type 1} → statement M
 fields-spec =

@@ -23,18 +23,40 @@ has-room-requires c κs = search needs
 
 put-line-requires : tie.Need-put-line-requires
 unfolding lineSize
-put-line-requires c κs = let a = c .before .before .before .before .before .args in leb-true (a .at + (length (decimal (a .number)) + 10)) (length (a .out .now)) (rw (c .before .before .before .places .ensures) at (told (c .before .before .has-room .ensures) (c .before .if1 .taken)))
+put-line-requires c κs =
+    let c3 = c .before .before .before in
+    let a = c3 .before .before .args in
+    leb-true (a .at + (length (decimal (a .number)) + 10)) (length (a .out .now))
+    (rw (c3 .places .ensures) at (told (c .before .before .has-room .ensures) (c .before .if1 .taken)))
 
 same-length : tie.Need-same-length
 same-length c = search needs
 
 returns : tie.Need-returns
 unfolding shownAt lineSize pick
-returns c = let a = c .before .before .before .before .before .before .before .before .args in rw (line-length (a .number) (a .answer) (a .lines) (a .given) (a .byte), c .before .before .put-line .ensures .1, c .before .before .put-line .ensures .0, ← c .before .before .before .before .before .before .places .ensures, told (c .before .before .before .before .before .has-room .ensures) (c .before .before .before .before .if1 .taken))
+returns c =
+    let c4 = c .before .before .before .before in
+    let c8 = c4 .before .before .before .before in
+    let a = c8 .args in
+    rw (
+      line-length (a .number) (a .answer) (a .lines) (a .given) (a .byte),
+      c .before .before .put-line .ensures .1,
+      c .before .before .put-line .ensures .0,
+      ← c4 .before .before .places .ensures,
+      told (c4 .before .has-room .ensures) (c4 .if1 .taken),
+    )
 
 returns-2 : tie.Need-returns-2
 unfolding shownAt lineSize pick
-returns-2 c = let a = c .before .before .before .before .args in rw (line-length (a .number) (a .answer) (a .lines) (a .given) (a .byte), ← c .before .before .places .ensures, told (c .before .has-room .ensures) (c .if1 .left))
+returns-2 c =
+    let c4 = c .before .before .before .before in
+    let a = c4 .args in
+    rw (
+      line-length (a .number) (a .answer) (a .lines) (a .given) (a .byte),
+      ← c .before .before .places .ensures,
+      told
+          (c .before .has-room .ensures) (c .if1 .left),
+    )
 
 pub show-line-spec : {M : Type 1} → statement M
 show-line-spec =

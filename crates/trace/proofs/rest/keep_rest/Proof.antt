@@ -11,14 +11,21 @@ sub-n : tie.Need-sub-n
 sub-n c = let a = c .before .before .args in both-bounds (a .from) (a .to) (length (a .buffer .now)) (c .if1 .taken) .0
 
 move-front-requires : tie.Need-move-front-requires
-move-front-requires c κs = let a = c .before .before .before .args in let h = both-bounds (a .from) (a .to) (length (a .buffer .now)) (c .before .if1 .taken) in omega arith
+move-front-requires c κs =
+    let a = c .before .before .before .args in
+    let h = both-bounds (a .from) (a .to) (length (a .buffer .now)) (c .before .if1 .taken) in
+    omega arith
 
 same-length : tie.Need-same-length
 same-length c = search needs
 
 returns : tie.Need-returns
 unfolding restOf pick
-returns c = let a = c .before .before .before .before .before .before .args in let h = both-bounds (a .from) (a .to) (length (a .buffer .now)) (c .before .before .before .before .if1 .taken) in record { is = rw (c .before .before .before .before .if1 .taken, c .before .before .move-front .ensures); inside = omega arith }
+returns c =
+    let c4 = c .before .before .before .before in
+    let a = c4 .before .before .args in
+    let h = both-bounds (a .from) (a .to) (length (a .buffer .now)) (c4 .if1 .taken) in
+    record { is = rw (c4 .if1 .taken, c .before .before .move-front .ensures); inside = omega arith }
 
 returns-2 : tie.Need-returns-2
 unfolding restOf pick

@@ -33,13 +33,19 @@ loop-less : tie.Need-loop-less Inv-loop μ-loop
 loop-less c = search needs
 
 loop-again : tie.Need-loop-again Inv-loop μ-loop
-loop-again c = let a = c .before .before .before .args in let l = c .before .before .loop in (omega arith, simp length-set (l .inv .1), rw (l .inv .2) (front-more (a .buffer .now) (a .from) (l .i) (omega arith)))
+loop-again c =
+    let a = c .before .before .before .args in
+    let l = c .before .before .loop in
+    (omega arith, simp length-set (l .inv .1), rw (l .inv .2) (front-more (a .buffer .now) (a .from) (l .i) (omega arith)))
 
 same-length : tie.Need-same-length Inv-loop μ-loop
 same-length c = search needs
 
 returns : tie.Need-returns Inv-loop μ-loop
-returns c = let a = c .before .before .args in let e : c .before .loop .i ≡ a .n = omega arith in c .before .loop .inv .2 ∙ ap (λ (k : ℕ). movedFront (a .buffer .now) (a .from) k) e
+returns c =
+    let a = c .before .before .args in
+    let e : c .before .loop .i ≡ a .n = omega arith in
+    c .before .loop .inv .2 ∙ ap (λ (k : ℕ). movedFront (a .buffer .now) (a .from) k) e
 
 pub move-front-spec : {M : Type 1} → statement M
 move-front-spec =

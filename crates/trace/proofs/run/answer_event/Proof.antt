@@ -10,10 +10,18 @@ step-core-requires : tie.Need-step-core-requires
 step-core-requires c κs = search needs
 
 add-put-line : tie.Need-add-put-line
-add-put-line c = let a = c .before .before .before .before .before .before .before .before .before .before .before .before .before .before .before .before .before .before .before .before .before .before .before .args in omega (arith, room-fits (length (a .out .now)) (a .full) (a .count) (c .before .before .before .before .before .before .before .before .before .before .before .before .before .before .before .before .before .before .before .before .before .before .before .pre) .0)
+add-put-line c =
+    let c23 =
+    c .before .before .before .before .before .before .before .before .before .before .before .before .before .before .before .before .before .before .before .before .before .before .before in
+    let a = c23 .args in
+    omega (arith, room-fits (length (a .out .now)) (a .full) (a .count) (c23 .pre) .0)
 
 put-line-requires : tie.Need-put-line-requires
-put-line-requires c κs = let a = c .before .before .before .before .before .before .before .before .before .before .before .before .before .before .before .before .before .before .before .before .before .before .before .args in room-fits (length (a .out .now)) (a .full) (a .count) (c .before .before .before .before .before .before .before .before .before .before .before .before .before .before .before .before .before .before .before .before .before .before .before .pre) .1
+put-line-requires c κs =
+    let c23 =
+    c .before .before .before .before .before .before .before .before .before .before .before .before .before .before .before .before .before .before .before .before .before .before .before in
+    let a = c23 .args in
+    room-fits (length (a .out .now)) (a .full) (a .count) (c23 .pre) .1
 
 stops-requires : tie.Need-stops-requires
 stops-requires c κs = search needs
@@ -34,7 +42,13 @@ same-length-5 : tie.Need-same-length-5
 same-length-5 c = search needs
 
 returns : tie.Need-returns
-returns c = let a = c .before .before .before .before .before .before .before .before .before .before .before .before .before .before .before .before .before .before .before .before .before .before .before .before .before .before .before .args in rw (c .before .before .before .put-line .ensures .1, c .before .before .before .put-line .ensures .0, c .stops .ensures) (turn-made _ _ _ _ _ (c .before .before .before .before .before .before .before .before .before .before .before .before .before .before .before .step-core .ensures) (a .count + 1) (a .full) (a .out .now))
+returns c =
+    let c3 = c .before .before .before in
+    let c15 = c3 .before .before .before .before .before .before .before .before .before .before .before .before in
+    let c27 = c15 .before .before .before .before .before .before .before .before .before .before .before .before in
+    let a = c27 .args in
+    rw (c3 .put-line .ensures .1, c3 .put-line .ensures .0, c .stops .ensures)
+    (turn-made _ _ _ _ _ (c15 .step-core .ensures) (a .count + 1) (a .full) (a .out .now))
 
 pub answer-event-spec : {M : Type 1} → statement M
 answer-event-spec =

@@ -54,55 +54,111 @@ same-length-5 : tie.Need-same-length-5 Inv-loop μ-loop
 same-length-5 c = c .before .before .before .before .loop .inv .0 .stands .same
 
 returns : tie.Need-returns Inv-loop μ-loop
-returns c = halts (none-left (c .before .before .before .before .loop .inv .0) (c .before .before .next-size .ensures) (c .before .if1 .taken)) (c .hand-back .ensures)
+returns c =
+    let c4 = c .before .before .before .before in
+    halts (none-left (c4 .loop .inv .0) (c .before .before .next-size .ensures) (c .before .if1 .taken)) (c .hand-back .ensures)
 
 has-room-requires : tie.Need-has-room-requires Inv-loop μ-loop
 has-room-requires c κs = search needs
 
 add-end : tie.Need-add-end Inv-loop μ-loop
-add-end c = let h = event-inside (c .before .before .before .before .before .loop .inv .0) (c .before .before .before .next-size .ensures) in omega (arith, c .before .before .before .before .before .before .before .before .before .before .before .before .good .1 .1 .1 .1 .1 .1 .0)
+add-end c =
+    let c3 = c .before .before .before in
+    let c12 = c3 .before .before .before .before .before .before .before .before .before in
+    let h = event-inside (c3 .before .before .loop .inv .0) (c3 .next-size .ensures) in
+    omega (arith, c12 .good .1 .1 .1 .1 .1 .1 .0)
 
 sub-answer-event : tie.Need-sub-answer-event Inv-loop μ-loop
 sub-answer-event c = search needs
 
 part-answer-event-start : tie.Need-part-answer-event-start Inv-loop μ-loop
-part-answer-event-start c = let h = event-inside (c .before .before .before .before .before .before .before .before .before .before .loop .inv .0) (c .before .before .before .before .before .before .before .before .next-size .ensures) in search needs
+part-answer-event-start c =
+    let c8 = c .before .before .before .before .before .before .before .before in
+    let h = event-inside (c8 .before .before .loop .inv .0) (c8 .next-size .ensures) in
+    search needs
 
 part-answer-event-end : tie.Need-part-answer-event-end Inv-loop μ-loop
-part-answer-event-end c = let h = event-inside (c .before .before .before .before .before .before .before .before .before .before .loop .inv .0) (c .before .before .before .before .before .before .before .before .next-size .ensures) in search needs
+part-answer-event-end c =
+    let c8 = c .before .before .before .before .before .before .before .before in
+    let h = event-inside (c8 .before .before .loop .inv .0) (c8 .next-size .ensures) in
+    search needs
 
 answer-event-requires : tie.Need-answer-event-requires Inv-loop μ-loop
-answer-event-requires c κs = told (c .before .before .before .before .before .before .before .before .has-room .ensures) (c .before .before .before .before .before .before .before .if2 .taken)
+answer-event-requires c κs =
+    let c7 = c .before .before .before .before .before .before .before in
+    told (c7 .before .has-room .ensures) (c7 .if2 .taken)
 
 add-n : tie.Need-add-n Inv-loop μ-loop
-add-n c = let l = c .before .before .before .before .before .before .before .before .before .before .before .before .before .before .before .before .before .before .before .before .before .before .before .before .loop in omega (arith, room-fits (length (l .out)) (l .written) (l .n) (told (c .before .before .before .before .before .before .before .before .before .before .before .before .before .before .before .before .before .before .before .before .has-room .ensures) (c .before .before .before .before .before .before .before .before .before .before .before .before .before .before .before .before .before .before .before .if2 .taken)) .0)
+add-n c =
+    let c19 =
+    c .before .before .before .before .before .before .before .before .before .before .before .before .before .before .before .before .before .before .before in
+    let c24 = c19 .before .before .before .before .before in
+    let l = c24 .loop in
+    omega (arith, room-fits (length (l .out)) (l .written) (l .n) (told (c19 .before .has-room .ensures) (c19 .if2 .taken)) .0)
 
 hand-back-requires-2 : tie.Need-hand-back-requires-2 Inv-loop μ-loop
 hand-back-requires-2 c κs = search needs
 
 same-length-6 : tie.Need-same-length-6 Inv-loop μ-loop
-same-length-6 c = c .before .before .before .before .before .before .before .before .before .before .before .before .before .answer-event .kept .1 .1 .0 ∙ c .before .before .before .before .before .before .before .before .before .before .before .before .before .before .before .before .before .before .before .before .before .before .before .before .before .before .loop .inv .1
+same-length-6 c =
+    let c13 = c .before .before .before .before .before .before .before .before .before .before .before .before .before in
+    let c26 = c13 .before .before .before .before .before .before .before .before .before .before .before .before .before in
+    c13 .answer-event .kept .1 .1 .0 ∙ c26 .loop .inv .1
 
 same-length-7 : tie.Need-same-length-7 Inv-loop μ-loop
-same-length-7 c = c .before .before .before .before .before .before .before .before .before .before .before .before .before .answer-event .kept .1 .1 .1 .0 ∙ c .before .before .before .before .before .before .before .before .before .before .before .before .before .before .before .before .before .before .before .before .before .before .before .before .before .before .loop .inv .2
+same-length-7 c =
+    let c13 = c .before .before .before .before .before .before .before .before .before .before .before .before .before in
+    let c26 = c13 .before .before .before .before .before .before .before .before .before .before .before .before .before in
+    c13 .answer-event .kept .1 .1 .1 .0 ∙ c26 .loop .inv .2
 
 same-length-8 : tie.Need-same-length-8 Inv-loop μ-loop
-same-length-8 c = c .before .before .before .before .before .before .before .before .before .before .before .before .before .answer-event .kept .1 .1 .1 .1 .0 ∙ c .before .before .before .before .before .before .before .before .before .before .before .before .before .before .before .before .before .before .before .before .before .before .before .before .before .before .loop .inv .3
+same-length-8 c =
+    let c13 = c .before .before .before .before .before .before .before .before .before .before .before .before .before in
+    let c26 = c13 .before .before .before .before .before .before .before .before .before .before .before .before .before in
+    c13 .answer-event .kept .1 .1 .1 .1 .0 ∙ c26 .loop .inv .3
 
 same-length-9 : tie.Need-same-length-9 Inv-loop μ-loop
-same-length-9 c = c .before .before .before .before .before .before .before .before .before .before .before .before .before .answer-event .kept .1 .1 .1 .1 .1 .0 ∙ c .before .before .before .before .before .before .before .before .before .before .before .before .before .before .before .before .before .before .before .before .before .before .before .before .before .before .loop .inv .4
+same-length-9 c =
+    let c13 = c .before .before .before .before .before .before .before .before .before .before .before .before .before in
+    let c26 = c13 .before .before .before .before .before .before .before .before .before .before .before .before .before in
+    c13 .answer-event .kept .1 .1 .1 .1 .1 .0 ∙ c26 .loop .inv .4
 
 same-length-10 : tie.Need-same-length-10 Inv-loop μ-loop
-same-length-10 c = c .before .before .before .before .before .before .before .before .before .before .before .before .before .answer-event .kept .1 .1 .1 .1 .1 .1 .1 .1 .0 ∙ c .before .before .before .before .before .before .before .before .before .before .before .before .before .before .before .before .before .before .before .before .before .before .before .before .before .before .loop .inv .0 .stands .same
+same-length-10 c =
+    let c13 = c .before .before .before .before .before .before .before .before .before .before .before .before .before in
+    let c26 = c13 .before .before .before .before .before .before .before .before .before .before .before .before .before in
+    c13 .answer-event .kept .1 .1 .1 .1 .1 .1 .1 .1 .0 ∙ c26 .loop .inv .0 .stands .same
 
 returns-2 : tie.Need-returns-2 Inv-loop μ-loop
-returns-2 c = halts (goes-no-further (c .before .before .before .before .before .before .before .before .before .before .before .before .before .before .before .before .before .before .before .before .before .before .before .before .before .before .loop .inv .0) (c .before .before .before .before .before .before .before .before .before .before .before .before .before .before .before .before .before .before .before .before .before .before .before .before .next-size .ensures) (c .before .before .before .before .before .before .before .before .before .before .before .before .before .before .before .before .before .before .before .before .before .before .before .if1 .left) (told (c .before .before .before .before .before .before .before .before .before .before .before .before .before .before .before .before .before .before .before .before .before .before .has-room .ensures) (c .before .before .before .before .before .before .before .before .before .before .before .before .before .before .before .before .before .before .before .before .before .if2 .taken)) (c .before .before .before .before .before .before .before .before .before .before .before .before .before .answer-event .ensures) (c .before .if3 .taken)) (c .hand-back2 .ensures)
+returns-2 c =
+    let c13 = c .before .before .before .before .before .before .before .before .before .before .before .before .before in
+    let c21 = c13 .before .before .before .before .before .before .before .before in
+    let c24 = c21 .before .before .before in
+    halts (goes-no-further (c24 .before .before .loop .inv .0) (c24 .next-size .ensures) (c21 .before .before .if1 .left)
+    (told (c21 .before .has-room .ensures) (c21 .if2 .taken)) (c13 .answer-event .ensures) (c .before .if3 .taken)) (c .hand-back2 .ensures)
 
 loop-less : tie.Need-loop-less Inv-loop μ-loop
-loop-less c = let h = event-inside (c .before .before .before .before .before .before .before .before .before .before .before .before .before .before .before .before .before .before .before .before .before .before .before .before .before .loop .inv .0) (c .before .before .before .before .before .before .before .before .before .before .before .before .before .before .before .before .before .before .before .before .before .before .before .next-size .ensures) in omega (arith, c .before .before .before .before .before .before .before .before .before .before .before .before .before .before .before .before .before .before .before .before .before .before .if1 .left)
+loop-less c =
+    let c22 =
+    c .before .before .before .before .before .before .before .before .before .before .before .before .before .before .before .before .before .before .before .before .before .before in
+    let c25 = c22 .before .before .before in
+    let h = event-inside (c25 .loop .inv .0) (c22 .before .next-size .ensures) in
+    omega (arith, c22 .if1 .left)
 
 loop-again : tie.Need-loop-again Inv-loop μ-loop
-loop-again c = let i = c .before .before .before .before .before .before .before .before .before .before .before .before .before .before .before .before .before .before .before .before .before .before .before .before .before .loop .inv in (goes-on (i .0) (c .before .before .before .before .before .before .before .before .before .before .before .before .before .before .before .before .before .before .before .before .before .before .before .next-size .ensures) (c .before .before .before .before .before .before .before .before .before .before .before .before .before .before .before .before .before .before .before .before .before .before .if1 .left) (told (c .before .before .before .before .before .before .before .before .before .before .before .before .before .before .before .before .before .before .before .before .before .has-room .ensures) (c .before .before .before .before .before .before .before .before .before .before .before .before .before .before .before .before .before .before .before .before .if2 .taken)) (c .before .before .before .before .before .before .before .before .before .before .before .before .answer-event .ensures) (c .if3 .left), c .before .before .before .before .before .before .before .before .before .before .before .before .answer-event .kept .1 .1 .0 ∙ i .1, c .before .before .before .before .before .before .before .before .before .before .before .before .answer-event .kept .1 .1 .1 .0 ∙ i .2, c .before .before .before .before .before .before .before .before .before .before .before .before .answer-event .kept .1 .1 .1 .1 .0 ∙ i .3, c .before .before .before .before .before .before .before .before .before .before .before .before .answer-event .kept .1 .1 .1 .1 .1 .0 ∙ i .4)
+loop-again c =
+    let c12 = c .before .before .before .before .before .before .before .before .before .before .before .before in
+    let c20 = c12 .before .before .before .before .before .before .before .before in
+    let c23 = c20 .before .before .before in
+    let i = c23 .before .before .loop .inv in (
+      goes-on (i .0) (c23 .next-size .ensures) (c20 .before .before .if1 .left) (told (c20 .before .has-room .ensures) (c20 .if2 .taken))
+          (c12 .answer-event .ensures) (c .if3 .left),
+      c12 .answer-event .kept .1 .1 .0 ∙ i .1,
+      c12 .answer-event .kept .1 .1 .1 .0
+          ∙ i .2,
+      c12 .answer-event .kept .1 .1 .1 .1 .0 ∙ i .3,
+      c12 .answer-event .kept .1 .1 .1 .1 .1 .0 ∙ i .4,
+    )
 
 hand-back-requires-3 : tie.Need-hand-back-requires-3 Inv-loop μ-loop
 hand-back-requires-3 c κs = search needs
@@ -123,7 +179,11 @@ same-length-15 : tie.Need-same-length-15 Inv-loop μ-loop
 same-length-15 c = c .before .before .before .before .before .before .loop .inv .0 .stands .same
 
 returns-3 : tie.Need-returns-3 Inv-loop μ-loop
-returns-3 c = halts (no-room (c .before .before .before .before .before .before .loop .inv .0) (c .before .before .before .before .next-size .ensures) (c .before .before .before .if1 .left) (told (c .before .before .has-room .ensures) (c .before .if2 .left))) (c .hand-back3 .ensures)
+returns-3 c =
+    let c3 = c .before .before .before in
+    let c6 = c3 .before .before .before in
+    halts (no-room (c6 .loop .inv .0) (c3 .before .next-size .ensures) (c3 .if1 .left)
+    (told (c .before .before .has-room .ensures) (c .before .if2 .left))) (c .hand-back3 .ensures)
 
 pub play-spec : {M : Type 1} → statement M
 play-spec =

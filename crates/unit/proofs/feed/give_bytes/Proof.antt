@@ -13,7 +13,8 @@ use Rattle.unit.proofs.feed.give_bytes.Tie as tie
 
 abbrev Inv-loop : tie.InvT-loop
 Inv-loop staging₀ tape0₀ tape1₀ tape2₀ tape3₀ bytes after₀ i₀ staging tape0 tape1 tape2 tape3 after i =
-    (run (world after (lent staging tape0 tape1 tape2 tape3)) (givenEach (drop i bytes)) ≡ run (world after₀ (lent staging₀ tape0₀ tape1₀ tape2₀ tape3₀)) (givenEach bytes))
+    (run (world after (lent staging tape0 tape1 tape2 tape3)) (givenEach (drop i bytes)) ≡ run
+    (world after₀ (lent staging₀ tape0₀ tape1₀ tape2₀ tape3₀)) (givenEach bytes))
     × ((i ≤ length bytes)
     × ((length tape0 ≡ length tape0₀) × ((length tape1 ≡ length tape1₀) × ((length tape2 ≡ length tape2₀) × (length tape3 ≡ length tape3₀)))))
 
@@ -34,7 +35,8 @@ step-core-requires c κs = search needs
 
 add-i : tie.Need-add-i Inv-loop μ-loop
 add-i c =
-    let test = c .before .before .before .before .before .before .before .before .before .before .before .before .before .before .before .before .before in
+    let test
+    = c .before .before .before .before .before .before .before .before .before .before .before .before .before .before .before .before .before in
     omega (arith, test .loop-test .taken, test .before .before .before .before .before .before .before .good)
 
 loop-less : tie.Need-loop-less Inv-loop μ-loop
@@ -44,8 +46,11 @@ loop-again : tie.Need-loop-again Inv-loop μ-loop
 loop-again c =
     let stepping = c .before .before .before .before .before .before .before .before .before in
     let test = stepping .before .before .before .before .before .before .before .before in
-    let at = test .before .loop in
-    (one-more (at .after) _ (test .before .before .before .before .before .before .before .args .bytes .now) (at .i) _ _ (test .loop-test .taken) (stepping .step-core .ensures) ∙ at .inv .0, search needs)
+    let at = test .before .loop in (
+      one-more (at .after) _ (test .before .before .before .before .before .before .before .args .bytes .now) (at .i) _ _ (test .loop-test .taken)
+          (stepping .step-core .ensures) ∙ at .inv .0,
+      search needs,
+    )
 
 same-length : tie.Need-same-length Inv-loop μ-loop
 same-length c = search needs
@@ -60,7 +65,9 @@ same-length-4 : tie.Need-same-length-4 Inv-loop μ-loop
 same-length-4 c = search needs
 
 returns : tie.Need-returns Inv-loop μ-loop
-returns c = rw (drop-of-length-le (c .before .before .before .before .before .before .before .args .bytes .now) (c .loop-test .left)) at (c .before .loop .inv .0)
+returns c =
+    let c7 = c .before .before .before .before .before .before .before in
+    rw (drop-of-length-le (c7 .args .bytes .now) (c .loop-test .left)) at (c .before .loop .inv .0)
 
 pub give-bytes-spec : {M : Type 1} → statement M
 give-bytes-spec =

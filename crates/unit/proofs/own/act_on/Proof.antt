@@ -31,7 +31,16 @@ refuse-requires : tie.Need-refuse-requires
 refuse-requires c κs = search needs
 
 returns : tie.Need-returns
-returns c = let a = c .before .before .before .before .before .before .before .before .before .before .args in let answer = rw (c .before .before .before .before .unless .ensures, c .before .before .before .before .before .in-step .ensures, c .before .before .before .before .before .before .reads .ensures, c .before .before .before .before .before .before .before .writes .ensures) at (c .before .before .before .refusal-by .ensures) in ap (λ (x : Turn). ownTurn x (a .staging .now) (a .tape .now)) (c .refuse .ensures) ∙ own-refused (a .core) (a .possible) (a .short) (a .drive) (a .staging .now) (a .tape .now) (a .a) _ answer (told (c .before .before .refuses .ensures) (c .before .if1 .taken))
+returns c =
+    let c3 = c .before .before .before in
+    let c6 = c3 .before .before .before in
+    let c10 = c6 .before .before .before .before in
+    let a = c10 .args in
+    let answer = rw (c3 .before .unless .ensures, c3 .before .before .in-step .ensures, c6 .reads .ensures, c6 .before .writes .ensures) at
+    (c3 .refusal-by .ensures) in
+    ap (λ (x : Turn). ownTurn x (a .staging .now) (a .tape .now)) (c .refuse .ensures)
+    ∙ own-refused (a .core) (a .possible) (a .short) (a .drive) (a .staging .now) (a .tape .now) (a .a) _ answer
+    (told (c .before .before .refuses .ensures) (c .before .if1 .taken))
 
 stage-requires : tie.Need-stage-requires
 stage-requires c κs = search needs
@@ -49,7 +58,22 @@ same-length : tie.Need-same-length
 same-length c = search needs
 
 returns-2 : tie.Need-returns-2
-returns-2 c = let a = c .before .before .before .before .before .before .before .before .before .before .before .before .before .before .before .before .before .before .before .before .args in let answer = rw (c .before .before .before .before .before .before .before .before .before .before .before .before .before .before .unless .ensures, c .before .before .before .before .before .before .before .before .before .before .before .before .before .before .before .in-step .ensures, c .before .before .before .before .before .before .before .before .before .before .before .before .before .before .before .before .reads .ensures, c .before .before .before .before .before .before .before .before .before .before .before .before .before .before .before .before .before .writes .ensures) at (c .before .before .before .before .before .before .before .before .before .before .before .before .before .refusal-by .ensures) in own-lands (a .core) (a .possible) (a .short) (a .drive) (a .staging .now) (a .tape .now) (a .a) _ answer _ (c .before .before .before .before .before .before .act .result) _ _ _ (c .done .ensures) (c .before .put .ensures) (c .before .before .before .before .before .before .act .ensures) (c .before .before .before .before .before .before .before .before .before .stage .ensures) (told (c .before .before .before .before .before .before .before .before .before .before .before .before .refuses .ensures) (c .before .before .before .before .before .before .before .before .before .before .before .if1 .left))
+returns-2 c =
+    let c6 = c .before .before .before .before .before .before in
+    let c9 = c6 .before .before .before in
+    let c12 = c9 .before .before .before in
+    let c15 = c12 .before .before .before in
+    let c20 = c15 .before .before .before .before .before in
+    let a = c20 .args in
+    let answer = rw (
+      c12 .before .before .unless .ensures,
+      c15 .in-step .ensures,
+      c15 .before .reads .ensures,
+      c15 .before .before .writes .ensures,
+    ) at (c12 .before .refusal-by .ensures) in
+    own-lands (a .core) (a .possible) (a .short) (a .drive) (a .staging .now) (a .tape .now) (a .a) _ answer _ (c6 .act .result) _ _ _
+    (c .done .ensures) (c .before .put .ensures) (c6 .act .ensures) (c9 .stage .ensures)
+    (told (c12 .refuses .ensures) (c9 .before .before .if1 .left))
 
 pub act-on-spec : {M : Type 1} → statement M
 act-on-spec =

@@ -39,7 +39,16 @@ moved-on-requires c κs = search needs
 
 returns : tie.Need-returns
 unfolding short
-returns c = let a = c .before .before .before .before .before .before .before .before .before .before .before .before .before .before .before .before .before .args in let l = lent (a .staging .now) (a .tape0 .now) (a .tape1 .now) (a .tape2 .now) (a .tape3 .now) in given-steps (a .core) l (a .event .now) _ _ _ (c .before .before .before .before .before .before .before .before .before .before .possible .ensures) (c .before .before .before .before .before .before .before .before .before .before .before .short .ensures) _ _ _ (c .before .before .before .before .before .before .before .before .given-place .ensures .0) (c .before .before .before .before .before .before .before .if1 .taken) (c .before .before .before .before .before .before .look .ensures) (c .before .before .before .before .if2 .taken) (c .moved-on .ensures) (rw (c .before .before .body .ensures) at (c .before .stage .ensures))
+returns c =
+    let c4 = c .before .before .before .before in
+    let c7 = c4 .before .before .before in
+    let c10 = c7 .before .before .before in
+    let c17 = c10 .before .before .before .before .before .before .before in
+    let a = c17 .args in
+    let l = lent (a .staging .now) (a .tape0 .now) (a .tape1 .now) (a .tape2 .now) (a .tape3 .now) in
+    given-steps (a .core) l (a .event .now) _ _ _ (c10 .possible .ensures) (c10 .before .short .ensures) _ _ _
+    (c7 .before .given-place .ensures .0) (c7 .if1 .taken) (c4 .before .before .look .ensures) (c4 .if2 .taken) (c .moved-on .ensures)
+    (rw (c .before .before .body .ensures) at (c .before .stage .ensures))
 
 taken-place-requires : tie.Need-taken-place-requires
 taken-place-requires c κs = search needs
@@ -67,7 +76,15 @@ same-length-4 c = search needs
 
 returns-2 : tie.Need-returns-2
 unfolding short
-returns-2 c = let a = c .before .before .before .before .before .before .before .before .before .before .before .before .before .before .before .before .before .before .before .before .args in let l = lent (a .staging .now) (a .tape0 .now) (a .tape1 .now) (a .tape2 .now) (a .tape3 .now) in taken-steps (a .core) l (a .event .now) _ _ _ (c .before .before .before .before .before .before .before .before .before .before .before .before .before .possible .ensures) (c .before .before .before .before .before .before .before .before .before .before .before .before .before .before .short .ensures) _ _ (c .before .before .before .before .before .before .before .before .before .taken-place .ensures .0) (c .before .before .before .before .before .before .before .before .if3 .taken) (c .before .before .before .next-byte .ensures) (c .before .if4 .taken) (c .moved-on2 .ensures)
+returns-2 c =
+    let c3 = c .before .before .before in
+    let c8 = c3 .before .before .before .before .before in
+    let c13 = c8 .before .before .before .before .before in
+    let c20 = c13 .before .before .before .before .before .before .before in
+    let a = c20 .args in
+    let l = lent (a .staging .now) (a .tape0 .now) (a .tape1 .now) (a .tape2 .now) (a .tape3 .now) in
+    taken-steps (a .core) l (a .event .now) _ _ _ (c13 .possible .ensures) (c13 .before .short .ensures) _ _ (c8 .before .taken-place .ensures .0)
+    (c8 .if3 .taken) (c3 .next-byte .ensures) (c .before .if4 .taken) (c .moved-on2 .ensures)
 
 octets-left-requires : tie.Need-octets-left-requires
 octets-left-requires c κs = search needs
@@ -86,7 +103,16 @@ done-requires c κs = search needs
 
 returns-3 : tie.Need-returns-3
 unfolding short
-returns-3 c = let a = c .before .before .before .before .before .before .before .before .before .before .before .before .before .before .before .before .before .before .before .args in let l = lent (a .staging .now) (a .tape0 .now) (a .tape1 .now) (a .tape2 .now) (a .tape3 .now) in octet-steps (a .core) l (a .event .now) _ _ _ (c .before .before .before .before .before .before .before .before .before .before .before .before .possible .ensures) (c .before .before .before .before .before .before .before .before .before .before .before .before .before .short .ensures) _ _ _ (c .before .before .before .before .before .before .octets-left .ensures) (c .before .before .before .before .before .if5 .taken) (c .before .before .before .before .if6 .taken) (c .done .ensures) (c .before .next-octet .ensures) (rw (c .before .before .before .after-octet .ensures) at (c .before .before .moved-to .ensures))
+returns-3 c =
+    let c3 = c .before .before .before in
+    let c6 = c3 .before .before .before in
+    let c12 = c6 .before .before .before .before .before .before in
+    let c19 = c12 .before .before .before .before .before .before .before in
+    let a = c19 .args in
+    let l = lent (a .staging .now) (a .tape0 .now) (a .tape1 .now) (a .tape2 .now) (a .tape3 .now) in
+    octet-steps (a .core) l (a .event .now) _ _ _ (c12 .possible .ensures) (c12 .before .short .ensures) _ _ _ (c6 .octets-left .ensures)
+    (c3 .before .before .if5 .taken) (c3 .before .if6 .taken) (c .done .ensures) (c .before .next-octet .ensures)
+    (rw (c3 .after-octet .ensures) at (c .before .before .moved-to .ensures))
 
 event-of-requires : tie.Need-event-of-requires
 event-of-requires c κs = search needs
@@ -123,7 +149,15 @@ same-length-5 c = search needs
 
 returns-4 : tie.Need-returns-4
 unfolding short oneOf putAt putLast pick
-returns-4 c = let a = c .before .before .before .before .before .before .before .before .before .before .before .before .before .before .before .before .before .before .before .before .before .before .before .before .before .args in let l = lent (a .staging .now) (a .tape0 .now) (a .tape1 .now) (a .tape2 .now) (a .tape3 .now) in steps-by (a .core) l (a .event .now) _ _ _ _ _ _ (c .before .before .before .before .before .before .before .before .before .before .event-of .ensures) (c .before .before .before .before .before .before .before .before .e2 .given .1) (c .before .before .before .before .before .before .before .before .before .before .before .before .before .before .before .before .before .before .possible .ensures) (c .before .before .before .before .before .before .before .before .before .before .before .before .before .before .before .before .before .before .before .short .ensures) (own-at (a .core) _ _ l _ _ _ _ 0 (c .before .before .before .before .before .if7 .taken) (c .before .before .act-on .ensures))
+returns-4 c =
+    let c5 = c .before .before .before .before .before in
+    let c8 = c5 .before .before .before in
+    let c18 = c8 .before .before .before .before .before .before .before .before .before .before in
+    let c25 = c18 .before .before .before .before .before .before .before in
+    let a = c25 .args in
+    let l = lent (a .staging .now) (a .tape0 .now) (a .tape1 .now) (a .tape2 .now) (a .tape3 .now) in
+    steps-by (a .core) l (a .event .now) _ _ _ _ _ _ (c8 .before .before .event-of .ensures) (c8 .e2 .given .1) (c18 .possible .ensures)
+    (c18 .before .short .ensures) (own-at (a .core) _ _ l _ _ _ _ 0 (c5 .if7 .taken) (c .before .before .act-on .ensures))
 
 act-on-requires-2 : tie.Need-act-on-requires-2
 act-on-requires-2 c κs = search needs
@@ -133,7 +167,15 @@ same-length-6 c = search needs
 
 returns-5 : tie.Need-returns-5
 unfolding short oneOf putAt putLast pick
-returns-5 c = let a = c .before .before .before .before .before .before .before .before .before .before .before .before .before .before .before .before .before .before .before .before .before .before .before .before .before .before .before .args in let l = lent (a .staging .now) (a .tape0 .now) (a .tape1 .now) (a .tape2 .now) (a .tape3 .now) in steps-by (a .core) l (a .event .now) _ _ _ _ _ _ (c .before .before .before .before .before .before .before .before .before .before .before .before .event-of .ensures) (c .before .before .before .before .before .before .before .before .before .before .e2 .given .1) (c .before .before .before .before .before .before .before .before .before .before .before .before .before .before .before .before .before .before .before .before .possible .ensures) (c .before .before .before .before .before .before .before .before .before .before .before .before .before .before .before .before .before .before .before .before .before .short .ensures) (own-at (a .core) _ _ l _ _ _ _ 1 (c .before .before .before .before .before .if8 .taken) (c .before .before .act-on2 .ensures))
+returns-5 c =
+    let c5 = c .before .before .before .before .before in
+    let c10 = c5 .before .before .before .before .before in
+    let c20 = c10 .before .before .before .before .before .before .before .before .before .before in
+    let c27 = c20 .before .before .before .before .before .before .before in
+    let a = c27 .args in
+    let l = lent (a .staging .now) (a .tape0 .now) (a .tape1 .now) (a .tape2 .now) (a .tape3 .now) in
+    steps-by (a .core) l (a .event .now) _ _ _ _ _ _ (c10 .before .before .event-of .ensures) (c10 .e2 .given .1) (c20 .possible .ensures)
+    (c20 .before .short .ensures) (own-at (a .core) _ _ l _ _ _ _ 1 (c5 .if8 .taken) (c .before .before .act-on2 .ensures))
 
 act-on-requires-3 : tie.Need-act-on-requires-3
 act-on-requires-3 c κs = search needs
@@ -143,29 +185,69 @@ same-length-7 c = search needs
 
 returns-6 : tie.Need-returns-6
 unfolding short oneOf putAt putLast pick
-returns-6 c = let a = c .before .before .before .before .before .before .before .before .before .before .before .before .before .before .before .before .before .before .before .before .before .before .before .before .before .before .before .before .before .args in let l = lent (a .staging .now) (a .tape0 .now) (a .tape1 .now) (a .tape2 .now) (a .tape3 .now) in steps-by (a .core) l (a .event .now) _ _ _ _ _ _ (c .before .before .before .before .before .before .before .before .before .before .before .before .before .before .event-of .ensures) (c .before .before .before .before .before .before .before .before .before .before .before .before .e2 .given .1) (c .before .before .before .before .before .before .before .before .before .before .before .before .before .before .before .before .before .before .before .before .before .before .possible .ensures) (c .before .before .before .before .before .before .before .before .before .before .before .before .before .before .before .before .before .before .before .before .before .before .before .short .ensures) (own-at (a .core) _ _ l _ _ _ _ 2 (c .before .before .before .before .before .if9 .taken) (c .before .before .act-on3 .ensures))
+returns-6 c =
+    let c5 = c .before .before .before .before .before in
+    let c12 = c5 .before .before .before .before .before .before .before in
+    let c22 = c12 .before .before .before .before .before .before .before .before .before .before in
+    let c29 = c22 .before .before .before .before .before .before .before in
+    let a = c29 .args in
+    let l = lent (a .staging .now) (a .tape0 .now) (a .tape1 .now) (a .tape2 .now) (a .tape3 .now) in
+    steps-by (a .core) l (a .event .now) _ _ _ _ _ _ (c12 .before .before .event-of .ensures) (c12 .e2 .given .1) (c22 .possible .ensures)
+    (c22 .before .short .ensures) (own-at (a .core) _ _ l _ _ _ _ 2 (c5 .if9 .taken) (c .before .before .act-on3 .ensures))
 
 act-on-requires-4 : tie.Need-act-on-requires-4
 act-on-requires-4 c κs = search needs
 
 returns-7 : tie.Need-returns-7
 unfolding short
-returns-7 c = let a = c .before .before .before .before .before .before .before .before .before .before .before .before .before .before .before .before .before .before .before .args in let l = lent (a .staging .now) (a .tape0 .now) (a .tape1 .now) (a .tape2 .now) (a .tape3 .now) in steps-by (a .core) l (a .event .now) _ l _ NoEvent _ _ (c .before .before .before .before .event-of .ensures) (c .before .before .enum-told .given .1) (c .before .before .before .before .before .before .before .before .before .before .before .before .possible .ensures) (c .before .before .before .before .before .before .before .before .before .before .before .before .before .short .ensures) (ap (λ (x : Turn). stepped x l) (c .refuse .ensures) ∙ none-refused (a .core) _ _ _ (c .before .refusal-by .ensures) l)
+returns-7 c =
+    let c4 = c .before .before .before .before in
+    let c12 = c4 .before .before .before .before .before .before .before .before in
+    let c19 = c12 .before .before .before .before .before .before .before in
+    let a = c19 .args in
+    let l = lent (a .staging .now) (a .tape0 .now) (a .tape1 .now) (a .tape2 .now) (a .tape3 .now) in
+    steps-by (a .core) l (a .event .now) _ l _ NoEvent _ _ (c4 .event-of .ensures) (c .before .before .enum-told .given .1)
+    (c12 .possible .ensures) (c12 .before .short .ensures) (ap (λ (x : Turn). stepped x l) (c .refuse .ensures)
+    ∙ none-refused (a .core) _ _ _ (c .before .refusal-by .ensures) l)
 
 returns-8 : tie.Need-returns-8
 unfolding short
-returns-8 c = let a = c .before .before .before .before .before .before .before .before .before .before .before .before .before .before .before .before .before .before .args in let l = lent (a .staging .now) (a .tape0 .now) (a .tape1 .now) (a .tape2 .now) (a .tape3 .now) in steps-by (a .core) l (a .event .now) _ l _ Reset _ _ (c .before .before .before .event-of .ensures) (c .before .enum-told2 .given .1) (c .before .before .before .before .before .before .before .before .before .before .before .possible .ensures) (c .before .before .before .before .before .before .before .before .before .before .before .before .short .ensures) (c .reset .ensures l)
+returns-8 c =
+    let c3 = c .before .before .before in
+    let c11 = c3 .before .before .before .before .before .before .before .before in
+    let c18 = c11 .before .before .before .before .before .before .before in
+    let a = c18 .args in
+    let l = lent (a .staging .now) (a .tape0 .now) (a .tape1 .now) (a .tape2 .now) (a .tape3 .now) in
+    steps-by (a .core) l (a .event .now) _ l _ Reset _ _ (c3 .event-of .ensures) (c .before .enum-told2 .given .1) (c11 .possible .ensures)
+    (c11 .before .short .ensures) (c .reset .ensures l)
 
 returns-9 : tie.Need-returns-9
 unfolding short
-returns-9 c = let a = c .before .before .before .before .before .before .before .before .before .before .before .before .before .before .before .before .before .before .before .args in let l = lent (a .staging .now) (a .tape0 .now) (a .tape1 .now) (a .tape2 .now) (a .tape3 .now) in steps-by (a .core) l (a .event .now) _ l _ _ _ _ (c .before .before .before .before .event-of .ensures) (c .before .before .e .given .1) (c .before .before .before .before .before .before .before .before .before .before .before .before .possible .ensures) (c .before .before .before .before .before .before .before .before .before .before .before .before .before .short .ensures) (c .slot .ensures l)
+returns-9 c =
+    let c4 = c .before .before .before .before in
+    let c12 = c4 .before .before .before .before .before .before .before .before in
+    let c19 = c12 .before .before .before .before .before .before .before in
+    let a = c19 .args in
+    let l = lent (a .staging .now) (a .tape0 .now) (a .tape1 .now) (a .tape2 .now) (a .tape3 .now) in
+    steps-by (a .core) l (a .event .now) _ l _ _ _ _ (c4 .event-of .ensures) (c .before .before .e .given .1) (c12 .possible .ensures)
+    (c12 .before .short .ensures) (c .slot .ensures l)
 
 same-length-8 : tie.Need-same-length-8
 same-length-8 c = search needs
 
 returns-10 : tie.Need-returns-10
 unfolding short
-returns-10 c = let a = c .before .before .before .before .before .before .before .before .before .before .before .before .before .before .before .before .before .before .before .before .before .before .before .before .before .before .before .before .before .args in let l = lent (a .staging .now) (a .tape0 .now) (a .tape1 .now) (a .tape2 .now) (a .tape3 .now) in steps-by (a .core) l (a .event .now) _ _ _ _ _ _ (c .before .before .before .before .before .before .before .before .before .before .before .before .before .before .event-of .ensures) (c .before .before .before .before .before .before .before .before .before .before .before .before .e2 .given .1) (c .before .before .before .before .before .before .before .before .before .before .before .before .before .before .before .before .before .before .before .before .before .before .possible .ensures) (c .before .before .before .before .before .before .before .before .before .before .before .before .before .before .before .before .before .before .before .before .before .before .before .short .ensures) (own-last (a .core) _ _ l _ _ _ _ (c .before .before .before .before .before .before .before .before .before .if7 .left) (c .before .before .before .before .before .before .before .if8 .left) (c .before .before .before .before .before .if9 .left) (c .before .before .act-on4 .ensures))
+returns-10 c =
+    let c5 = c .before .before .before .before .before in
+    let c9 = c5 .before .before .before .before in
+    let c12 = c9 .before .before .before in
+    let c22 = c12 .before .before .before .before .before .before .before .before .before .before in
+    let c29 = c22 .before .before .before .before .before .before .before in
+    let a = c29 .args in
+    let l = lent (a .staging .now) (a .tape0 .now) (a .tape1 .now) (a .tape2 .now) (a .tape3 .now) in
+    steps-by (a .core) l (a .event .now) _ _ _ _ _ _ (c12 .before .before .event-of .ensures) (c12 .e2 .given .1) (c22 .possible .ensures)
+    (c22 .before .short .ensures) (own-last (a .core) _ _ l _ _ _ _ (c9 .if7 .left) (c5 .before .before .if8 .left) (c5 .if9 .left)
+    (c .before .before .act-on4 .ensures))
 
 pub step-core-spec : {M : Type 1} → statement M
 step-core-spec =

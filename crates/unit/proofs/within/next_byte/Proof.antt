@@ -36,7 +36,14 @@ unfolding oneOf pick
 returns-3 c = rw (c .next-of3 .ensures, c .before .match .keys3)
 
 returns-4 : tie.Need-returns-4
-returns-4 c = let no = c .before .match .rest in let a = c .before .before .before .before .before .before .args in let i = a .core .port .selected in c .next-of4 .ensures ∙ ap₂ (λ (d : Drive) (t : List ℕ). nextOf d t (a .n)) (sym (last-one i _ _ _ _ (no .0 .0 .1) (no .0 .1) (no .1))) (sym (last-one i _ _ _ _ (no .0 .0 .1) (no .0 .1) (no .1)))
+returns-4 c =
+    let c6 = c .before .before .before .before .before .before in
+    let no = c .before .match .rest in
+    let a = c6 .args in
+    let i = a .core .port .selected in
+    c .next-of4 .ensures
+    ∙ ap₂ (λ (d : Drive) (t : List ℕ). nextOf d t (a .n)) (sym (last-one i _ _ _ _ (no .0 .0 .1) (no .0 .1) (no .1)))
+    (sym (last-one i _ _ _ _ (no .0 .0 .1) (no .0 .1) (no .1)))
 
 pub next-byte-spec : {M : Type 1} → statement M
 next-byte-spec =

@@ -16,15 +16,30 @@ is-block-requires : tie.Need-is-block-requires
 is-block-requires c κs = search needs
 
 byte-of-requires : tie.Need-byte-of-requires
-byte-of-requires c κs = let a = c .before .before .before .before .before .before .args in (whole (a .tape .now) (a .drive .head) (rw (← c .before .before .found-at .ensures, ← c .before .is-block .ensures) (c .if2 .taken)), c .before .before .before .before .before .before .pre)
+byte-of-requires c κs =
+    let c6 = c .before .before .before .before .before .before in
+    let a = c6 .args in
+    (whole (a .tape .now) (a .drive .head) (rw (← c .before .before .found-at .ensures, ← c .before .is-block .ensures) (c .if2 .taken)), c6 .pre)
 
 returns : tie.Need-returns
 unfolding pick nextOf
-returns c = rw (c .byte-of .ensures, ← c .before .before .before .before .before .reads .ensures, c .before .before .before .before .if1 .taken, ← c .before .before .before .found-at .ensures, ← c .before .before .is-block .ensures, c .before .if2 .taken)
+returns c =
+    let c3 = c .before .before .before in
+    rw (
+      c .byte-of .ensures,
+      ← c3 .before .before .reads .ensures,
+      c3 .before .if1 .taken,
+      ← c3 .found-at .ensures,
+      ←
+          c .before .before .is-block .ensures,
+      c .before .if2 .taken,
+    )
 
 returns-2 : tie.Need-returns-2
 unfolding pick nextOf
-returns-2 c = rw (← c .before .before .before .before .reads .ensures, c .before .before .before .if1 .taken, ← c .before .before .found-at .ensures, ← c .before .is-block .ensures, c .if2 .left)
+returns-2 c =
+    let c3 = c .before .before .before in
+    rw (← c3 .before .reads .ensures, c3 .if1 .taken, ← c .before .before .found-at .ensures, ← c .before .is-block .ensures, c .if2 .left)
 
 returns-3 : tie.Need-returns-3
 unfolding pick nextOf

@@ -18,7 +18,9 @@ reset-requires-4 : tie.Need-reset-requires-4
 reset-requires-4 c κs = search needs
 
 returns : tie.Need-returns
-returns c = rw (c .reset4 .ensures, c .before .reset3 .ensures, c .before .before .reset2 .ensures, c .before .before .before .reset .ensures, c .before .before .before .before .at-drive .ensures)
+returns c =
+    let c3 = c .before .before .before in
+    rw (c .reset4 .ensures, c .before .reset3 .ensures, c .before .before .reset2 .ensures, c3 .reset .ensures, c3 .before .at-drive .ensures)
 
 pub reset-spec : {M : Type 1} → statement M
 reset-spec =
