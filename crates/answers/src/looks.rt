@@ -4,18 +4,22 @@ ghost use Rattle.rules.specs.Unit.{driveAt};
 ghost use Rattle.answers.specs.Looks.{lookOf};
 use rules::Core;
 use rules::Drive;
+use rules::Mode;
 
-// A cartridge in, and whether the drive takes data.
+// A cartridge in, the mode, and whether the drive takes data.
 pub struct Seen {
     pub loaded: bool,
+    pub mode: Mode,
     pub writes: bool,
 }
 
 fn look_at(drive: Drive) -> Seen
     ensures { λ r. ⌜ r ≡ lookOf drive ⌝ }
 {
+    let mode = drive.mode;
     Seen {
         loaded: drive.loaded,
+        mode,
         writes: drive.writes(),
     }
 }

@@ -1,4 +1,4 @@
--- One turn of a loop over pairs: what is left to run behind a pair comes to what was left before it.
+-- Pairs cut off one after the other, and what the world at the end has.
 use Prim.Native.Nat.{ℕ, zero, suc, _+_, _-_, _<_, _≤_}
 use mathlib.Core.Path.{_≡_, refl, sym, ap, ap₂, _∙_}
 use mathlib.Core.List.{List, [], _∷_}
@@ -6,11 +6,8 @@ use native.Mathlib.Omega.{arith}
 use lib.ListN.{length, getD, take, drop, length-drop}
 use lib.Seq.{drop-cons}
 use Rattle.rules.specs.declared.unit.Core.{Core}
-use Rattle.rules.specs.declared.answer.Turn.{Turn}
-use Rattle.rules.specs.Unit.{Lent, lent}
-use Rattle.rules.specs.Step.{Steps}
+use Rattle.rules.specs.Unit.{lent}
 use Rattle.rules.specs.Run.{World, world, run, freshWorld}
-use Rattle.rules.proofs.Ran.{loop-goes-on}
 use Rattle.trace.specs.Cut.{kindSize}
 use Rattle.pace.specs.Pairs.{pairsOf, Paced}
 
@@ -24,7 +21,7 @@ taken (suc (suc (suc n))) k b l h = absurd (omega arith)
 pair-then-rest : (l : List ℕ) (i : ℕ) → i + 1 < length l → drop i l ≡ getD l i 0 ∷ (getD l (suc i) 0 ∷ drop (suc (suc i)) l)
 pair-then-rest l i h = drop-cons l i 0 (omega (arith, h)) ∙ ap (λ (r : List ℕ). getD l i 0 ∷ r) (drop-cons l (suc i) 0 (omega (arith, h)))
 
-pairs-cut : (l : List ℕ) (i end size : ℕ) → i + 1 < length l → size ≡ kindSize (getD l i 0) → size ≤ 2 → end ≡ i + size
+pub pairs-cut : (l : List ℕ) (i end size : ℕ) → i + 1 < length l → size ≡ kindSize (getD l i 0) → size ≤ 2 → end ≡ i + size
     → pairsOf (drop i l) ≡ take (end - i) (drop i l) ∷ pairsOf (drop (i + 2) l)
 pairs-cut l i end size h is few e =
     let k = getD l i 0 in
@@ -38,11 +35,6 @@ pairs-cut l i end size h is few e =
     ∙ sym (taken (end - i) k b rest (omega (arith, few, cut)))
     ∙ ap (take (end - i)) (sym there) in
     ap pairsOf there ∙ ap₂ (λ (x : List ℕ) (n : ℕ). x ∷ pairsOf (drop n l)) event two
-
-pub one-pair : (c : Core) (l : Lent) (pairs : List ℕ) (i end size : ℕ) (r : Turn) (l′ : Lent) → i + 1 < length pairs
-    → size ≡ kindSize (getD pairs i 0) → size ≤ 2 → end ≡ i + size → Steps c l (take (end - i) (drop i pairs)) r l′
-    → run (world (r .core) l′) (pairsOf (drop (i + 2) pairs)) ≡ run (world c l) (pairsOf (drop i pairs))
-one-pair c l pairs i end size r l′ h is few e p = loop-goes-on c l _ r l′ _ _ p (pairs-cut pairs i end size h is few e) .run-on
 
 -- less than a pair is no event
 none-left : (m : List ℕ) → length m ≤ 1 → pairsOf m ≡ []

@@ -1,5 +1,5 @@
 -- ONLINE dropped: which of its rules two tests choose, and what the mode says.
-use mathlib.Core.Path.{_≡_, refl}
+use mathlib.Core.Path.{_≡_, refl, _∙_}
 use mathlib.Core.Bool.{Bool, true, false, _&&_}
 use Rattle.basis.specs.Choice.{pick}
 use Rattle.rules.specs.declared.drive.Mode.{Mode}
@@ -9,37 +9,29 @@ use Rattle.rules.specs.Effect.{Seat}
 use Rattle.rules.specs.Online.{leftAlone, leaving}
 
 -- the level up with EXCEPTION; up with a cartridge; and neither
+by-two-tests : {A : Type 0} (online exception loaded : Bool) (idle left level : A)
+    → pick online (pick exception idle (pick loaded left level)) level ≡ pick (online && exception) idle (pick (online && loaded) left level)
+unfolding pick
+by-two-tests true true loaded idle left level = refl
+by-two-tests true false true idle left level = refl
+by-two-tests true false false idle left level = refl
+by-two-tests false exception loaded idle left level = refl
+
 module _ {A : Type 0} (online exception loaded : Bool) (idle left level : A) where
-  pub with-exception : (online && exception) ≡ true → pick online (pick exception idle (pick loaded left level)) level ≡ idle
-  unfolding pick
-  with-exception = go online exception
-    where
-      go : (o e : Bool) → (o && e) ≡ true → pick o (pick e idle (pick loaded left level)) level ≡ idle
-      go true true h = refl
-      go true false h = cc
-      go false e h = cc
+  abbrev chosen : A
+  chosen = pick online (pick exception idle (pick loaded left level)) level
 
-  pub with-cartridge : (online && exception) ≡ false → (online && loaded) ≡ true → pick online (pick exception idle (pick loaded left level))
-      level ≡ left
+  pub with-exception : (online && exception) ≡ true → chosen ≡ idle
   unfolding pick
-  with-cartridge = go online exception loaded
-    where
-      go : (o e l : Bool) → (o && e) ≡ false → (o && l) ≡ true → pick o (pick e idle (pick l left level)) level ≡ left
-      go true true l h k = cc
-      go true false true h k = refl
-      go true false false h k = cc
-      go false e l h k = cc
+  with-exception h = by-two-tests online exception loaded idle left level ∙ rw h
 
-  pub with-neither : (online && exception) ≡ false → (online && loaded) ≡ false → pick online (pick exception idle (pick loaded left level))
-      level ≡ level
+  pub with-cartridge : (online && exception) ≡ false → (online && loaded) ≡ true → chosen ≡ left
   unfolding pick
-  with-neither = go online exception loaded
-    where
-      go : (o e l : Bool) → (o && e) ≡ false → (o && l) ≡ false → pick o (pick e idle (pick l left level)) level ≡ level
-      go true true l h k = cc
-      go true false true h k = cc
-      go true false false h k = refl
-      go false e l h k = refl
+  with-cartridge h k = by-two-tests online exception loaded idle left level ∙ rw (h, k)
+
+  pub with-neither : (online && exception) ≡ false → (online && loaded) ≡ false → chosen ≡ level
+  unfolding pick
+  with-neither h k = by-two-tests online exception loaded idle left level ∙ rw (h, k)
 
 -- a mark only in Writing
 pub leaving-writing : (s : Seat) (m : Mode) → isWriting m ≡ true → leaving s Writing ≡ leaving s m

@@ -5,7 +5,7 @@ use mathlib.Core.List.{List, [], _∷_, _++_}
 use Rattle.rules.specs.declared.answer.Turn.{Turn}
 use Rattle.rules.specs.Step.{Stepped}
 use Rattle.rules.specs.Run.{World, world, after, run, turnOf, turns}
-use Rattle.rules.specs.Ran.{no-event, next, RunsAreTheBooks, EveryRun, StepsAreTheBooks, LoopGoesOn, RunLaws, RanAppend}
+use Rattle.rules.specs.Ran.{no-event, next, RunsAreTheBooks, EveryRun, StepsAreTheBooks, LoopGoesOn, LoopLaws, RunLaws, RanAppend}
 
 pub steps-are-the-books : StepsAreTheBooks
 unfolding after turnOf
@@ -19,6 +19,24 @@ loop-goes-on c l event r l′ still rest p first =
       run-on = ap (λ (w : World). run w rest) (sym (one .left)) ∙ sym (ap (run (world c l)) first);
       turns-on =
           ap₂ (λ (t : Turn) (w : World). t ∷ turns w rest) (sym (one .answered)) (sym (one .left)) ∙ sym (ap (turns (world c l)) first);
+    }
+
+pub loop-laws : LoopLaws
+loop-laws =
+    record {
+      begins = λ c l whole. record { leads = refl; sizes = record { size0 = refl; size1 = refl; size2 = refl; size3 = refl } };
+      goes-on = λ {c₀} {c} {l₀} {l} {l′} {whole} {still} {rest} {event} {r} at step first kept.
+          record {
+            leads = loop-goes-on c l event r l′ still rest step first .run-on ∙ at .leads;
+            sizes =
+                record {
+                  size0 = kept .size0 ∙ at .sizes .size0;
+                  size1 = kept .size1 ∙ at .sizes .size1;
+                  size2 = kept .size2 ∙ at .sizes .size2;
+                  size3 = kept .size3 ∙ at .sizes .size3;
+                };
+          };
+      ends = λ {c₀} {c} {l₀} {l} {whole} {still} at none. ap (run (world c l)) (sym none) ∙ at .leads;
     }
 
 pub runs-are-the-books : RunsAreTheBooks

@@ -16,7 +16,7 @@ use Rattle.rules.specs.declared.phase.Phase.{Phase}
 use Rattle.rules.specs.declared.phase.Phase.the-variants.{Rest, Taking, Giving, Status}
 use Rattle.rules.specs.declared.unit.Port.{Port}
 use Rattle.rules.specs.declared.unit.Core.{Core}
-use Rattle.rules.specs.Drive.{noBits, noErrors, noUnderruns}
+use Rattle.rules.specs.Drive.{drive, noBits, noErrors, noUnderruns}
 use Rattle.rules.specs.Unit.{Lent, lent, driveAt, putDrive, tapeAt, putTape}
 use Rattle.tape.specs.Record.{longest}
 use Rattle.rules.specs.Refusal.{possiblePhase}
@@ -29,17 +29,7 @@ use Rattle.rules.proofs.Sound.{Fit, Sound}
 
 -- What stands in the place of the other three drives, and a number that is not d.
 abbrev pub quiet : Drive
-quiet =
-    record {
-      loaded = false;
-      protected = false;
-      head = 0;
-      mode = Idle;
-      exception = false;
-      latched = noBits;
-      errors = noErrors;
-      underruns = noUnderruns;
-    }
+quiet = drive false false 0 Idle false noBits noErrors noUnderruns
 
 unfoldable pub elsewhere : ℕ → ℕ
 elsewhere d = pick (eqb d 0) 1 0

@@ -38,75 +38,19 @@ record Lines (a : Answer) (b5 b6 b4 b2 b3 b1 : Bool) : Type 0 where
 in-order : (b5 b6 b4 b2 b3 b1 : Bool) → Lines (inOrder b5 b6 b4 b2 b3 b1) b5 b6 b4 b2 b3 b1
 unfolding pick inOrder
 in-order true b6 b4 b2 b3 b1 =
-    record {
-      l5 = (λ _. refl, λ _. refl);
-      l6 = (λ h. (cc, cc), λ h. cc);
-      l4 = (λ h. (cc, cc, cc), λ h. cc);
-      l2 = (λ h. (cc, cc, cc, cc), λ h. cc);
-      l3 = (λ h. (cc, cc, cc, cc, cc), λ h. cc);
-      l1 = (λ h. (cc, cc, cc, cc, cc, cc), λ h. cc);
-      l0 = (λ h. (cc, cc, cc, cc, cc, cc), λ h. cc);
-    }
+    record { l5 = (λ _. refl, λ _. refl); l6 = (λ h. (cc, cc), λ h. cc); l4 = (λ h. (cc, cc, cc), λ h. cc); l2 = (λ h. (cc, cc, cc, cc), λ h. cc); l3 = (λ h. (cc, cc, cc, cc, cc), λ h. cc); l1 = (λ h. (cc, cc, cc, cc, cc, cc), λ h. cc); l0 = (λ h. (cc, cc, cc, cc, cc, cc), λ h. cc) }
 in-order false true b4 b2 b3 b1 =
-    record {
-      l5 = (λ h. cc, λ h. cc);
-      l6 = (λ _. (refl, refl), λ _. refl);
-      l4 = (λ h. (cc, cc, cc), λ h. cc);
-      l2 = (λ h. (cc, cc, cc, cc), λ h. cc);
-      l3 = (λ h. (cc, cc, cc, cc, cc), λ h. cc);
-      l1 = (λ h. (cc, cc, cc, cc, cc, cc), λ h. cc);
-      l0 = (λ h. (cc, cc, cc, cc, cc, cc), λ h. cc);
-    }
+    record { l5 = (λ h. cc, λ h. cc); l6 = (λ _. (refl, refl), λ _. refl); l4 = (λ h. (cc, cc, cc), λ h. cc); l2 = (λ h. (cc, cc, cc, cc), λ h. cc); l3 = (λ h. (cc, cc, cc, cc, cc), λ h. cc); l1 = (λ h. (cc, cc, cc, cc, cc, cc), λ h. cc); l0 = (λ h. (cc, cc, cc, cc, cc, cc), λ h. cc) }
 in-order false false true b2 b3 b1 =
-    record {
-      l5 = (λ h. cc, λ h. cc);
-      l6 = (λ h. (cc, cc), λ h. cc);
-      l4 = (λ _. (refl, refl, refl), λ _. refl);
-      l2 = (λ h. (cc, cc, cc, cc), λ h. cc);
-      l3 = (λ h. (cc, cc, cc, cc, cc), λ h. cc);
-      l1 = (λ h. (cc, cc, cc, cc, cc, cc), λ h. cc);
-      l0 = (λ h. (cc, cc, cc, cc, cc, cc), λ h. cc);
-    }
+    record { l5 = (λ h. cc, λ h. cc); l6 = (λ h. (cc, cc), λ h. cc); l4 = (λ _. (refl, refl, refl), λ _. refl); l2 = (λ h. (cc, cc, cc, cc), λ h. cc); l3 = (λ h. (cc, cc, cc, cc, cc), λ h. cc); l1 = (λ h. (cc, cc, cc, cc, cc, cc), λ h. cc); l0 = (λ h. (cc, cc, cc, cc, cc, cc), λ h. cc) }
 in-order false false false true b3 b1 =
-    record {
-      l5 = (λ h. cc, λ h. cc);
-      l6 = (λ h. (cc, cc), λ h. cc);
-      l4 = (λ h. (cc, cc, cc), λ h. cc);
-      l2 = (λ _. (refl, refl, refl, refl), λ _. refl);
-      l3 = (λ h. (cc, cc, cc, cc, cc), λ h. cc);
-      l1 = (λ h. (cc, cc, cc, cc, cc, cc), λ h. cc);
-      l0 = (λ h. (cc, cc, cc, cc, cc, cc), λ h. cc);
-    }
+    record { l5 = (λ h. cc, λ h. cc); l6 = (λ h. (cc, cc), λ h. cc); l4 = (λ h. (cc, cc, cc), λ h. cc); l2 = (λ _. (refl, refl, refl, refl), λ _. refl); l3 = (λ h. (cc, cc, cc, cc, cc), λ h. cc); l1 = (λ h. (cc, cc, cc, cc, cc, cc), λ h. cc); l0 = (λ h. (cc, cc, cc, cc, cc, cc), λ h. cc) }
 in-order false false false false true b1 =
-    record {
-      l5 = (λ h. cc, λ h. cc);
-      l6 = (λ h. (cc, cc), λ h. cc);
-      l4 = (λ h. (cc, cc, cc), λ h. cc);
-      l2 = (λ h. (cc, cc, cc, cc), λ h. cc);
-      l3 = (λ _. (refl, refl, refl, refl, refl), λ _. refl);
-      l1 = (λ h. (cc, cc, cc, cc, cc, cc), λ h. cc);
-      l0 = (λ h. (cc, cc, cc, cc, cc, cc), λ h. cc);
-    }
+    record { l5 = (λ h. cc, λ h. cc); l6 = (λ h. (cc, cc), λ h. cc); l4 = (λ h. (cc, cc, cc), λ h. cc); l2 = (λ h. (cc, cc, cc, cc), λ h. cc); l3 = (λ _. (refl, refl, refl, refl, refl), λ _. refl); l1 = (λ h. (cc, cc, cc, cc, cc, cc), λ h. cc); l0 = (λ h. (cc, cc, cc, cc, cc, cc), λ h. cc) }
 in-order false false false false false true =
-    record {
-      l5 = (λ h. cc, λ h. cc);
-      l6 = (λ h. (cc, cc), λ h. cc);
-      l4 = (λ h. (cc, cc, cc), λ h. cc);
-      l2 = (λ h. (cc, cc, cc, cc), λ h. cc);
-      l3 = (λ h. (cc, cc, cc, cc, cc), λ h. cc);
-      l1 = (λ _. (refl, refl, refl, refl, refl, refl), λ _. refl);
-      l0 = (λ h. (cc, cc, cc, cc, cc, cc), λ h. cc);
-    }
+    record { l5 = (λ h. cc, λ h. cc); l6 = (λ h. (cc, cc), λ h. cc); l4 = (λ h. (cc, cc, cc), λ h. cc); l2 = (λ h. (cc, cc, cc, cc), λ h. cc); l3 = (λ h. (cc, cc, cc, cc, cc), λ h. cc); l1 = (λ _. (refl, refl, refl, refl, refl, refl), λ _. refl); l0 = (λ h. (cc, cc, cc, cc, cc, cc), λ h. cc) }
 in-order false false false false false false =
-    record {
-      l5 = (λ h. cc, λ h. cc);
-      l6 = (λ h. (cc, cc), λ h. cc);
-      l4 = (λ h. (cc, cc, cc), λ h. cc);
-      l2 = (λ h. (cc, cc, cc, cc), λ h. cc);
-      l3 = (λ h. (cc, cc, cc, cc, cc), λ h. cc);
-      l1 = (λ h. (cc, cc, cc, cc, cc, cc), λ h. cc);
-      l0 = (λ _. (refl, refl, refl, refl, refl, refl), λ _. refl);
-    }
+    record { l5 = (λ h. cc, λ h. cc); l6 = (λ h. (cc, cc), λ h. cc); l4 = (λ h. (cc, cc, cc), λ h. cc); l2 = (λ h. (cc, cc, cc, cc), λ h. cc); l3 = (λ h. (cc, cc, cc, cc, cc), λ h. cc); l1 = (λ h. (cc, cc, cc, cc, cc, cc), λ h. cc); l0 = (λ _. (refl, refl, refl, refl, refl, refl), λ _. refl) }
 
 -- what is taken is answered by whether a rule raised EXCEPTION
 effect-answer : (c : Core) (l : Lent) (e : Event) → effectOf c l e .turn .answer ≡ pick (raises c l e) Raised Taken

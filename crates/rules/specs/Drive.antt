@@ -40,71 +40,25 @@ withBit Ill l = record { cni = l .cni; eom = l .eom; ude = l .ude; fil = l .fil;
 withBit Ndt l = record { cni = l .cni; eom = l .eom; ude = l .ude; fil = l .fil; ill = l .ill; ndt = true; por = l .por }
 withBit Por l = record { cni = l .cni; eom = l .eom; ude = l .ude; fil = l .fil; ill = l .ill; ndt = l .ndt; por = true }
 
--- The parts of the record, each set by itself: what a move does not name stays.
+-- A record by its parts: cartridge and plug; head; mode; EXCEPTION and latched bits; both counts.
+abbrev pub drive : Bool → Bool → ℕ → Mode → Bool → Latched → Errors → Underruns → Drive
+drive l p h m e k a b = record { loaded = l; protected = p; head = h; mode = m; exception = e; latched = k; errors = a; underruns = b }
+
+-- Each part set by itself: what a move does not name stays.
 abbrev pub setCartridge : Bool → Bool → Drive → Drive
-setCartridge l p d =
-    record {
-      loaded = l;
-      protected = p;
-      head = d .head;
-      mode = d .mode;
-      exception = d .exception;
-      latched = d .latched;
-      errors = d .errors;
-      underruns = d .underruns;
-    }
+setCartridge l p d = drive l p (d .head) (d .mode) (d .exception) (d .latched) (d .errors) (d .underruns)
 
 abbrev pub setHead : ℕ → Drive → Drive
-setHead h d =
-    record {
-      loaded = d .loaded;
-      protected = d .protected;
-      head = h;
-      mode = d .mode;
-      exception = d .exception;
-      latched = d .latched;
-      errors = d .errors;
-      underruns = d .underruns;
-    }
+setHead h d = drive (d .loaded) (d .protected) h (d .mode) (d .exception) (d .latched) (d .errors) (d .underruns)
 
 abbrev pub inMode : Mode → Drive → Drive
-inMode m d =
-    record {
-      loaded = d .loaded;
-      protected = d .protected;
-      head = d .head;
-      mode = m;
-      exception = d .exception;
-      latched = d .latched;
-      errors = d .errors;
-      underruns = d .underruns;
-    }
+inMode m d = drive (d .loaded) (d .protected) (d .head) m (d .exception) (d .latched) (d .errors) (d .underruns)
 
 abbrev pub setReport : Bool → Latched → Drive → Drive
-setReport e l d =
-    record {
-      loaded = d .loaded;
-      protected = d .protected;
-      head = d .head;
-      mode = d .mode;
-      exception = e;
-      latched = l;
-      errors = d .errors;
-      underruns = d .underruns;
-    }
+setReport e k d = drive (d .loaded) (d .protected) (d .head) (d .mode) e k (d .errors) (d .underruns)
 
 abbrev pub setCounts : Errors → Underruns → Drive → Drive
-setCounts e n d =
-    record {
-      loaded = d .loaded;
-      protected = d .protected;
-      head = d .head;
-      mode = d .mode;
-      exception = d .exception;
-      latched = d .latched;
-      errors = e;
-      underruns = n;
-    }
+setCounts a b d = drive (d .loaded) (d .protected) (d .head) (d .mode) (d .exception) (d .latched) a b
 
 abbrev pub noErrors : Errors
 noErrors = record { 0 = 0 }
@@ -114,17 +68,7 @@ noUnderruns = record { 0 = 0 }
 
 -- Fresh: no cartridge or plug, head 0, Idle, counters 0, POR latched and EXCEPTION up.
 abbrev pub freshDrive : Drive
-freshDrive =
-    record {
-      loaded = false;
-      protected = false;
-      head = 0;
-      mode = Idle;
-      exception = true;
-      latched = withBit Por noBits;
-      errors = noErrors;
-      underruns = noUnderruns;
-    }
+freshDrive = drive false false 0 Idle true (withBit Por noBits) noErrors noUnderruns
 
 -- RESET: as fresh; cartridge and plug stay.
 abbrev pub wasReset : Drive → Drive

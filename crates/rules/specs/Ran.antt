@@ -2,6 +2,7 @@
 use Prim.Native.Nat.{ℕ}
 use mathlib.Core.Path.{_≡_}
 use mathlib.Core.List.{List, [], _∷_, _++_}
+use lib.ListN.{length}
 use Rattle.rules.specs.declared.unit.Core.{Core}
 use Rattle.rules.specs.declared.answer.Turn.{Turn}
 use Rattle.rules.specs.Unit.{Lent}
@@ -51,6 +52,24 @@ abbrev pub LoopGoesOn : Type 0
 LoopGoesOn =
     (c : Core) (l : Lent) (event : List ℕ) (r : Turn) (l′ : Lent) (still rest : List (List ℕ))
     → Steps c l event r l′ → still ≡ event ∷ rest → Goes c l event r l′ still rest
+
+-- Where such a loop stands that began with core c₀ and what is lent as l₀: what is still to come leads where all of it led, and each tape has its length.
+pub record SameSizes (l l₀ : Lent) : Type 0 where
+  pub size0 : length (l .tape0) ≡ length (l₀ .tape0)
+  pub size1 : length (l .tape1) ≡ length (l₀ .tape1)
+  pub size2 : length (l .tape2) ≡ length (l₀ .tape2)
+  pub size3 : length (l .tape3) ≡ length (l₀ .tape3)
+
+pub record UnderWay (c₀ : Core) (l₀ : Lent) (whole : List (List ℕ)) (c : Core) (l : Lent) (still : List (List ℕ)) : Type 0 where
+  pub leads : run (world c l) still ≡ run (world c₀ l₀) whole
+  pub sizes : SameSizes l l₀
+
+-- It stands so where it begins, after each step, and where nothing is left it has run to the end.
+pub record LoopLaws : Type 0 where
+  pub begins : (c : Core) (l : Lent) (whole : List (List ℕ)) → UnderWay c l whole c l whole
+  pub goes-on : {c₀ c : Core} {l₀ l l′ : Lent} {whole still rest : List (List ℕ)} {event : List ℕ} {r : Turn}
+      → UnderWay c₀ l₀ whole c l still → Steps c l event r l′ → still ≡ event ∷ rest → SameSizes l′ l → UnderWay c₀ l₀ whole (r .core) l′ rest
+  pub ends : {c₀ c : Core} {l₀ l : Lent} {whole still : List (List ℕ)} → UnderWay c₀ l₀ whole c l still → still ≡ [] → RunsTo c₀ l₀ whole c l
 
 -- The laws of a run: no event, one event, and one list of events after another.
 pub record RunLaws : Type 0 where

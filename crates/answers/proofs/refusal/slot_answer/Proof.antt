@@ -27,16 +27,16 @@ unless-requires-4 : tie.Need-unless-requires-4
 unless-requires-4 c κs = search needs
 
 returns : tie.Need-returns
-returns c = rw (c .unless .ensures, c .before .enum-told .given .1)
+returns c = rw (c .before .enum-told .given .1, c .unless .ensures)
 
 returns-2 : tie.Need-returns-2
-returns-2 c = rw (c .unless2 .ensures, c .before .enum-told2 .given .1)
+returns-2 c = rw (c .before .enum-told2 .given .1, c .unless2 .ensures)
 
 returns-3 : tie.Need-returns-3
-returns-3 c = rw (c .unless3 .ensures, c .before .enum-told3 .given .1)
+returns-3 c = rw (c .before .enum-told3 .given .1, c .unless3 .ensures)
 
 returns-4 : tie.Need-returns-4
-returns-4 c = rw (c .unless4 .ensures, c .before .enum-told4 .given .1)
+returns-4 c = rw (c .before .enum-told4 .given .1, c .unless4 .ensures)
 
 pub slot-answer-spec : {M : Type 1} → statement M
 slot-answer-spec =
