@@ -32,6 +32,7 @@ use Rattle.rules.proofs.Keeps.{fresh-is-possible, step-stays-sound}
 use Rattle.rules.proofs.Sight.{look, seen-here, staging-here, here-same, look-drive, look-tape, look-sound, place-below, octets-twice}
 use Rattle.rules.proofs.Agree.{given-seen}
 use Rattle.rules.proofs.Sim
+use Rattle.rules.proofs.SimOf
 
 -- ---- one event
 
@@ -54,10 +55,10 @@ module _ (d : ℕ) (d3 : d ≤ 3) (w : World) (k : Sound (w .core) (w .lent)) (e
 
       Pair : Stepped → Stepped → Type 0
       Pair x y =
-          (Sim.seenIn d x ≡ Sim.seenIn d y)
+          (SimOf.seenIn d x ≡ SimOf.seenIn d y)
           × (gaveBy d (w .core .port .selected) (eventOf e) (x .turn) ≡ gaveBy d (look d w .core .port .selected) (eventOf e) (y .turn))
 
-      pair : Sim.Sim d (eventOf e) (w .core) (look d w .core) s s′ → Pair s s′
+      pair : SimOf.Sim d (eventOf e) (w .core) (look d w .core) s s′ → Pair s s′
       pair m = (m .view, ap₂ (λ (x : Option Answer) (y : Option Shown). record { answer = x; shown = y }) (m .answer) (m .shown))
 
   -- it does not: d sees the same world after it

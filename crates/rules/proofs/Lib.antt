@@ -19,6 +19,8 @@ pub mod Wrong
 pub mod Sight
 pub mod Agree
 pub mod Ports
+pub mod SimOf
+pub mod SimHere
 pub mod Sim
 pub mod Demand3
 pub mod Ran

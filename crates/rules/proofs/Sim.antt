@@ -1,242 +1,42 @@
--- One event in a world, and the same event in that world as drive d sees it.
+-- One event in a world, and the same event in that world as drive d sees it: of the drive itself, of another that reaches it, and of one that does not.
 use Prim.Native.Nat.{ℕ, _≤_}
 use mathlib.Core.Path.{_≡_, refl, sym, ap, ap₂, subst, _∙_}
 use mathlib.Core.Bool.{Bool, true, false, not, _&&_, _||_, true≢false, false≢true}
 use mathlib.Core.List.{List, []}
-use mathlib.Core.Option.{Option, none, some}
+use mathlib.Core.Option.{none}
 use lib.Dec.{eqb}
-use lib.ListN.{length}
-use borrow.Author.Tests.{eqb-true, eqb-false, eq-eqb, ne-eqb}
+use borrow.Author.Tests.{eqb-true, eqb-false}
 use Rattle.basis.specs.Choice.{pick}
 use Rattle.rules.specs.declared.drive.Drive.{Drive}
-use Rattle.rules.specs.declared.drive.Mode.{Mode}
 use Rattle.rules.specs.declared.phase.Phase.{Phase}
-use Rattle.rules.specs.declared.phase.Phase.the-variants.{Rest, Taking, Giving, Status}
 use Rattle.rules.specs.declared.unit.Port.{Port}
 use Rattle.rules.specs.declared.unit.Core.{Core}
 use Rattle.rules.specs.declared.event.Act.{Act}
 use Rattle.rules.specs.declared.event.Act.the-variants.{Command, Give, Take, Online, Offline}
 use Rattle.rules.specs.declared.event.What.{What}
-use Rattle.rules.specs.declared.event.What.the-variants.{In, Out, Error, Underrun}
 use Rattle.rules.specs.declared.event.Event.{Event}
 use Rattle.rules.specs.declared.event.Event.the-variants.{NoEvent, Reset, Named, Own}
 use Rattle.rules.specs.declared.order.Order.{Order}
 use Rattle.rules.specs.declared.order.Order.the-variants.{Select}
-use Rattle.rules.specs.declared.order.Fault.the-variants.{Fine}
 use Rattle.rules.specs.declared.answer.Answer.{Answer}
-use Rattle.rules.specs.declared.answer.Answer.the-variants.{Taken, Raised, OutOfStep, WrongSlot, Malformed}
-use Rattle.rules.specs.declared.answer.Lines.{Lines}
-use Rattle.rules.specs.Drive.{wasReset, chosen}
-use Rattle.rules.specs.Unit.{Lent, oneOf, driveAt, putDrive, tapeAt, putTape, putStaging, atPhase, atDrive, resetPort, resetCore}
-use Rattle.rules.specs.Answer.{rowOf}
-use Rattle.rules.specs.Refusal.{possiblePhase, inStepAt, slotAnswer, refusalIn}
-use Rattle.rules.specs.Lines.{linesAt, linesOf}
+use Rattle.rules.specs.declared.answer.Answer.the-variants.{Taken, Raised, OutOfStep}
+use Rattle.rules.specs.Drive.{chosen}
+use Rattle.rules.specs.Unit.{Lent, driveAt, putDrive, tapeAt, putStaging, atPhase, atDrive}
+use Rattle.rules.specs.Refusal.{inStepAt, refusalIn}
 use Rattle.rules.specs.Order.{orderOf, illegal, faultBy}
 use Rattle.rules.specs.Effect.{Seat, seat, Acted, leaves, faultOf, commanded}
-use Rattle.rules.specs.Online.{dropped}
-use Rattle.rules.specs.Slot.{befallen, isOut, partDropped, phaseAfter}
-use Rattle.rules.specs.Step.{Stepped, act, staged, stagedIn, seatOf, done, refused, landed, effectOf, settled}
-use Rattle.rules.specs.Run.{World, world}
-use Rattle.rules.specs.Reach.{Change, realChange, anyLevel, changes, selects, isSelectOf, answered, accepted, reachesBy, Shown, isLevel, comparedAway}
-use Rattle.rules.specs.Promises.Demand3.{octetsIn}
+use Rattle.rules.specs.Slot.{befallen, isOut, phaseAfter}
+use Rattle.rules.specs.Step.{Stepped, act, stagedIn, seatOf, landed, effectOf, settled}
+use Rattle.rules.specs.Run.{world}
+use Rattle.rules.specs.Reach.{Change, realChange, isSelectOf, answered, accepted, reachesBy, isLevel}
 use Rattle.basis.proofs.Choosing.{both, not-not}
-use Rattle.rules.proofs.Places.{put-there, put-away}
-use Rattle.rules.proofs.Sound.{Sound, sound-seat}
-use Rattle.rules.proofs.StepBy.{in-step, Slotted, lets, bars, slotted, staged-sound, own-does}
-use Rattle.rules.proofs.Sight.{quiet, elsewhere, herePort, awayPort, seenBy, blank, stagingIn, stagingBy, looks, look, elsewhere-not, elsewhere-real, seen-here, seen-away, staging-here, staging-away, seen-level, here-same, looks-alike, away-alike, here-alike, look-drive, look-tape, look-twice, look-sound, staging-twice, octets-twice}
-use Rattle.rules.proofs.Agree
+use Rattle.rules.proofs.Places.{put-away}
+use Rattle.rules.proofs.Sound.{Sound}
+use Rattle.rules.proofs.StepBy.{Slotted, lets, bars, slotted, own-does}
+use Rattle.rules.proofs.Sight.{quiet, elsewhere, herePort, awayPort, stagingIn, look, elsewhere-not, elsewhere-real, seen-away, here-same, away-alike, here-alike, look-drive, look-tape, look-sound}
 use Rattle.rules.proofs.Ports
-
--- What drive d sees after a step, and what it shows of it.
-abbrev pub seenIn : ℕ → Stepped → World
-seenIn d s = look d (world (s .turn .core) (s .lent))
-
-abbrev pub showsIf : Bool → Lines → Bool → ℕ → Option Shown
-showsIf here n g b = pick here (some (record { lines = n; given = g; byte = b })) none
-
-abbrev pub shownIn : ℕ → Stepped → Option Shown
-shownIn d s = showsIf (eqb (s .turn .core .port .selected) d) (s .turn .lines) (s .turn .given) (s .turn .byte)
-
-abbrev pub toldIf : Bool → Answer → Option Answer
-toldIf compared a = pick compared (some a) none
-
-abbrev pub answerIn : ℕ → ℕ → Event → Stepped → Option Answer
-answerIn d n e s = toldIf (eqb n d || comparedAway e) (s .turn .answer)
-
--- The two steps are one to drive d.
-pub record Sim (d : ℕ) (e : Event) (c c′ : Core) (s s′ : Stepped) : Type 0 where
-  pub view : seenIn d s ≡ seenIn d s′
-  pub answer : answerIn d (c .port .selected) e s ≡ answerIn d (c′ .port .selected) e s′
-  pub shown : shownIn d s ≡ shownIn d s′
-
--- ---- lines
-
-lines-here : (d : ℕ) (x : World) → eqb (x .core .port .selected) d ≡ true → linesOf (x .core) ≡ linesOf (look d x .core)
-unfolding linesOf
-lines-here d x e =
-    let n : x .core .port .selected ≡ d = eqb-true (x .core .port .selected) d e in
-    ap (λ (y : Drive). linesAt (x .core .port .phase) y) (ap (λ (j : ℕ). driveAt (x .core) j) n
-    ∙ sym (put-there _ d (driveAt (x .core) d) quiet quiet quiet quiet (sym n)))
-    ∙ sym (ap (λ (q : Port). linesAt (q .phase) (driveAt (look d x .core) (q .selected))) (seen-here d (x .core .port) e))
-
-shown-look : (d : ℕ) (x : World) (n : Lines) (g : Bool) (b : ℕ) → n ≡ linesOf (x .core)
-    → showsIf (eqb (x .core .port .selected) d) n g b ≡ showsIf (eqb (look d x .core .port .selected) d) (linesOf (look d x .core)) g b
-unfolding pick
-shown-look d x n g b e = rw (here-same d (x .core .port)) (go (eqb (x .core .port .selected) d) refl)
-  where
-    go : (t : Bool) → eqb (x .core .port .selected) d ≡ t → showsIf t n g b ≡ showsIf t (linesOf (look d x .core)) g b
-    go true q = ap (λ (z : Lines). some (record { lines = z; given = g; byte = b })) (e ∙ lines-here d x q)
-    go false q = refl
-
--- steps whose lines are those of their record
-record Lit (s : Stepped) : Type 0 where
-  is : s .turn .lines ≡ linesOf (s .turn .core)
-
-shown-same : (d : ℕ) (s s′ : Stepped) → Lit s → Lit s′ → s .turn .given ≡ s′ .turn .given → s .turn .byte ≡ s′ .turn .byte
-    → seenIn d s ≡ seenIn d s′ → shownIn d s ≡ shownIn d s′
-shown-same d s s′ a b p q v =
-    shown-look d (world (s .turn .core) (s .lent)) (s .turn .lines) (s .turn .given) (s .turn .byte) (a .is)
-    ∙ ap (λ (x : World). showsIf (eqb (x .core .port .selected) d) (linesOf (x .core)) (s .turn .given) (s .turn .byte)) v
-    ∙ ap₂ (λ (g : Bool) (n : ℕ). showsIf (eqb (seenIn d s′ .core .port .selected) d) (linesOf (seenIn d s′ .core)) g n) p q
-    ∙ sym (shown-look d (world (s′ .turn .core) (s′ .lent)) (s′ .turn .lines) (s′ .turn .given) (s′ .turn .byte) (b .is))
-
-done-lit : (r g : Bool) (b : ℕ) (c : Core) (l : Lent) → Lit (done r g b c l)
-done-lit r g b c l = record { is = refl }
-
--- where the look of both, the answer and the byte are the same
-sim-of : (d : ℕ) (e : Event) (c : Core) (l : Lent) (s s′ : Stepped) → Lit s → Lit s′ → seenIn d s ≡ seenIn d s′
-    → s .turn .answer ≡ s′ .turn .answer → s .turn .given ≡ s′ .turn .given
-    → s .turn .byte ≡ s′ .turn .byte → Sim d e c (look d (world c l) .core) s s′
-sim-of d e c l s s′ a b v r g n =
-    record {
-      view = v;
-      answer = ap₂ (λ (t : Bool) (x : Answer). toldIf (t || comparedAway e) x) (sym (here-same d (c .port))) r;
-      shown = shown-same d s s′ a b g n v;
-    }
-
--- ---- a part block dropped or not: what is seen of octets and staging stays what was seen
-
-part-octets : (t : Bool) (ph : Phase) (o : List ℕ) → octetsIn (pick t (partDropped ph) ph) o ≡ octetsIn (pick t (partDropped ph) ph) (octetsIn ph o)
-unfolding pick
-part-octets true Rest o = refl
-part-octets true (Taking n) o = refl
-part-octets true (Giving n) o = refl
-part-octets true (Status k) o = refl
-part-octets false ph o = sym (octets-twice ph o)
-
-part-staging : (t : Bool) (ph : Phase) (m : Mode) (g : List ℕ) → possiblePhase ph m ≡ true → length g ≡ 512
-    → stagingIn (pick t (partDropped ph) ph) g ≡ stagingIn (pick t (partDropped ph) ph) (stagingIn ph g)
-unfolding pick
-part-staging true Rest m g h w = refl
-part-staging true (Taking n) m g h w = refl
-part-staging true (Giving n) m g h w = refl
-part-staging true (Status k) m g h w = refl
-part-staging false ph m g h w = sym (staging-twice ph m g h w)
-
-part-port : (t : Bool) (p : Port) → herePort (atPhase (pick t (partDropped (p .phase)) (p .phase)) p) ≡ herePort
-    (atPhase (pick t (partDropped (p .phase)) (p .phase)) (herePort p))
-part-port t p =
-    ap (λ (o : List ℕ). record { selected = p .selected; online = p .online; phase = pick t (partDropped (p .phase)) (p .phase); octets = o })
-    (part-octets t (p .phase) (p .octets))
-
--- at Rest nothing of the block is seen
-rest-staging : (d : ℕ) (p : Port) (g : List ℕ) → p .phase ≡ Rest → stagingBy d p g ≡ blank
-rest-staging d p g e = go (eqb (p .selected) d) refl
-  where
-    go : (b : Bool) → eqb (p .selected) d ≡ b → stagingBy d p g ≡ blank
-    go true q = staging-here d p g q ∙ rw e
-    go false q = staging-away d p g q
-
-reset-drive : (c : Core) (d : ℕ) → driveAt (resetCore c) d ≡ wasReset (driveAt c d)
-unfolding oneOf pick
-reset-drive c d = go (eqb d 0) (eqb d 1) (eqb d 2)
-  where
-    go : (x y z : Bool)
-        → pick x (wasReset (c .drive0)) (pick y (wasReset (c .drive1)) (pick z (wasReset (c .drive2)) (wasReset (c .drive3))))
-        ≡ wasReset (pick x (c .drive0) (pick y (c .drive1) (pick z (c .drive2) (c .drive3))))
-    go true y z = refl
-    go false true z = refl
-    go false false true = refl
-    go false false false = refl
-
--- four of one kind
-one-same : {A : Type 0} (i : ℕ) (x : A) → oneOf i x x x x ≡ x
-unfolding oneOf pick
-one-same {A} i x = go (eqb i 0) (eqb i 1) (eqb i 2)
-  where
-    go : (a b c : Bool) → pick a x (pick b x (pick c x x)) ≡ x
-    go true b c = refl
-    go false true c = refl
-    go false false true = refl
-    go false false false = refl
-
--- acts that are in step wherever the phase is Rest
-abbrev atRestOnly : Act → Bool
-atRestOnly (Command c) = true
-atRestOnly (Give b) = false
-atRestOnly Take = false
-atRestOnly Online = true
-atRestOnly Offline = true
-
-in-rest : (a : Act) → atRestOnly a ≡ true → inStepAt Rest quiet a ≡ true
-in-rest (Command c) h = refl
-in-rest (Give b) h = absurd (false≢true h)
-in-rest Take h = absurd (false≢true h)
-in-rest Online h = refl
-in-rest Offline h = refl
-
-and-none : (x : Bool) → (x && false) ≡ false
-and-none true = refl
-and-none false = refl
-
--- of two reasons the first is none
-second : (x y : Bool) → (x && false || y) ≡ true → y ≡ true
-second true y h = h
-second false y h = h
-
-neither : (x y : Bool) → (x && false || y && false) ≡ false
-neither true true = refl
-neither true false = refl
-neither false true = refl
-neither false false = refl
-
-no-choice : (x y z : Bool) → (x && false || y && z) ≡ false → y ≡ true → z ≡ false
-no-choice true true z h e = h
-no-choice false true z h e = h
-no-choice x false z h e = absurd (false≢true e)
-
-no-change : (x y z : Bool) → x ≡ true → (x && y || z) ≡ false → y ≡ false
-no-change true true z e h = absurd (true≢false h)
-no-change true false z e h = refl
-no-change false y z e h = absurd (false≢true e)
-
-answered-done : (r : Bool) → answered (pick r Raised Taken) ≡ true
-unfolding pick
-answered-done true = refl
-answered-done false = refl
-
--- why an act of another drive reaches d
-abbrev reason : Change → ℕ → Bool → Act → Answer → Bool
-reason r d level a x = (answered x && changes r a level) || (accepted x && selects d a)
-
-not-by : (r : Change) (d : ℕ) (level : Bool) (a : Act) → atRestOnly a ≡ false → (x : Answer) → reason r d level a x ≡ true → ⊥
-not-by r d level (Command c) n x h = true≢false n
-not-by r d level (Give b) n x h = false≢true (sym (neither (answered x) (accepted x)) ∙ h)
-not-by r d level Take n x h = false≢true (sym (neither (answered x) (accepted x)) ∙ h)
-not-by r d level Online n x h = true≢false n
-not-by r d level Offline n x h = true≢false n
-
-rest-reach : (r : Change) (d : ℕ) (level : Bool) (a : Act) (x : Answer) → reason r d level a x ≡ true → atRestOnly a ≡ true
-rest-reach r d level (Command c) x h = refl
-rest-reach r d level (Give b) x h = absurd (not-by r d level (Give b) refl x h)
-rest-reach r d level Take x h = absurd (not-by r d level Take refl x h)
-rest-reach r d level Online x h = refl
-rest-reach r d level Offline x h = refl
-
--- an act in step is not refused
-taken-step : (c : Core) (a : Act) → inStepAt (c .port .phase) (driveAt c (c .port .selected)) a ≡ true → refusalIn c (Own a) ≡ Taken
-unfolding pick
-taken-step c a q = rw q
+use Rattle.rules.proofs.SimOf.{seenIn, shownIn, answerIn, Sim, sim-of, one-same, atRestOnly, in-rest, and-none, second, no-choice, no-change, answered-done, reason, not-by, rest-reach, taken-step}
+use Rattle.rules.proofs.SimHere.{reset-sim, named-sim, sim-here}
 
 module _ (c : Core) (l : Lent) (k : Sound c l) (d : ℕ) (d3 : d ≤ 3) where
   abbrev cv : Core
@@ -247,143 +47,6 @@ module _ (c : Core) (l : Lent) (k : Sound c l) (d : ℕ) (d3 : d ≤ 3) where
 
   kv : Sound cv lv
   kv = look-sound d (world c l) k
-
-  -- ---- refused, RESET, cartridges and counts of drive d
-
-  refused-sim : (e : Event) (a : Answer) → rowOf a .linesDown ≡ false → Sim d e c cv (refused a c l) (refused a cv lv)
-  unfolding pick
-  refused-sim e a n =
-      sim-of d e c l (refused a c l) (refused a cv lv) (record { is = rw n }) (record { is = rw n }) (sym (look-twice d (world c l) k)) refl refl refl
-
-  pub reset-sim : Sim d Reset c cv (effectOf c l Reset) (effectOf cv lv Reset)
-  reset-sim =
-      sim-of d Reset c l (effectOf c l Reset) (effectOf cv lv Reset) (record { is = refl }) (record { is = refl })
-      (looks-alike d (resetPort (c .port)) (resetPort (cv .port)) (l .staging) (lv .staging) _ _ _ _
-      (ap (λ (o : Bool). seenBy d (record { selected = 0; online = o; phase = Rest; octets = [] })) (sym (seen-level d (c .port))))
-      (rest-staging d (resetPort (c .port)) (l .staging) refl ∙ sym (rest-staging d (resetPort (cv .port)) (lv .staging) refl))
-      (reset-drive c d ∙ ap wasReset (sym (look-drive d (world c l))) ∙ sym (reset-drive cv d))
-      (sym (look-tape d (world c l))))
-      refl refl refl
-
-  named-view : (x : What) → seenIn d (effectOf c l (Named d x)) ≡ seenIn d (effectOf cv lv (Named d x))
-  named-view x = go (eqb (c .port .selected) d) refl
-    where
-      after : Port → Port
-      after q = atPhase (phaseAfter x (eqb d (q .selected)) (q .phase)) q
-
-      drives : driveAt (putDrive c (after (c .port)) d (befallen x (driveAt c d))) d ≡ driveAt
-          (putDrive cv (after (cv .port)) d (befallen x (driveAt cv d))) d
-      drives =
-          put-there d d (befallen x (driveAt c d)) (c .drive0) (c .drive1) (c .drive2) (c .drive3) refl
-          ∙ ap (befallen x) (sym (look-drive d (world c l)))
-          ∙ sym (put-there d d (befallen x (driveAt cv d)) (cv .drive0) (cv .drive1) (cv .drive2) (cv .drive3) refl)
-
-      go : (b : Bool) → eqb (c .port .selected) d ≡ b → seenIn d (effectOf c l (Named d x)) ≡ seenIn d (effectOf cv lv (Named d x))
-      go true e =
-          here-alike d (after (c .port)) (after (cv .port)) (l .staging) (lv .staging) _ _ _ _
-          (part-port (isOut x && eqb d (c .port .selected)) (c .port) ∙ ap (λ (q : Port). herePort (after q)) (sym (seen-here d (c .port) e)))
-          (part-staging (isOut x && eqb d (c .port .selected)) (c .port .phase) _ (l .staging) (k .phase) (k .whole)
-          ∙ ap₂ (λ (q : Port) (g : List ℕ). stagingIn (after q .phase) g) (sym (seen-here d (c .port) e))
-          (sym (staging-here d (c .port) (l .staging) e)))
-          drives (sym (look-tape d (world c l)))
-      go false e =
-          away-alike d (after (c .port)) (after (cv .port)) (l .staging) (lv .staging) _ _ _ _ e (here-same d (c .port)
-          ∙ e) (sym (seen-level d (c .port))) drives (sym (look-tape d (world c l)))
-
-  pub named-sim : (x : What) → Sim d (Named d x) c cv (settled c l (Named d x) (refusalIn c (Named d x)))
-      (settled cv lv (Named d x) (refusalIn cv (Named d x)))
-  unfolding pick
-  named-sim x =
-      subst (λ (y : Drive). Sim d (Named d x) c cv (settled c l (Named d x) (refusalIn c (Named d x)))
-      (settled cv lv (Named d x) (slotAnswer (y .loaded) x)))
-      (sym (look-drive d (world c l))) (go _ (slotted (driveAt c d .loaded) x))
-    where
-      go : (a : Answer) → Slotted a → Sim d (Named d x) c cv (settled c l (Named d x) a) (settled cv lv (Named d x) a)
-      go a lets =
-          sim-of d (Named d x) c l (effectOf c l (Named d x)) (effectOf cv lv (Named d x)) (record { is = refl }) (record { is = refl })
-          (named-view x) refl refl refl
-      go a (bars stops calm) = rw (stops) (refused-sim (Named d x) a calm)
-
-  -- ---- an act of drive d itself
-
-  module _ (e : eqb (c .port .selected) d ≡ true) where
-    here : c .port .selected ≡ d
-    here = eqb-true (c .port .selected) d e
-
-    -- what drive d sees of its own seat
-    seat-look : seatOf cv lv ≡ Agree.seen (seatOf c l)
-    seat-look =
-        ap (λ (q : Port). seat q (driveAt cv (q .selected)) (tapeAt lv (q .selected))) (seen-here d (c .port) e)
-        ∙ ap₂ (λ (x : Drive) (t : List ℕ). seat (herePort (c .port)) x t)
-        (put-there (c .port .selected) d (driveAt c d) quiet quiet quiet quiet (sym here) ∙ ap (driveAt c) (sym here))
-        (put-there (c .port .selected) d (tapeAt l d) [] [] [] [] (sym here) ∙ ap (tapeAt l) (sym here))
-
-    step-look : (a : Act) → inStepAt (cv .port .phase) (driveAt cv (cv .port .selected)) a ≡ inStepAt (c .port .phase)
-        (driveAt c (c .port .selected)) a
-    step-look a = ap (λ (s : Seat). inStepAt (s .port .phase) (s .drive) a) seat-look
-
-    -- the act as it is done there
-    act-look : (a : Act) → act (stagedIn cv a lv .staging) (seatOf cv lv) a ≡ act
-        (staged (c .port .phase) a (stagingIn (c .port .phase) (l .staging))) (Agree.seen (seatOf c l)) a
-    act-look a =
-        ap₂ (λ (g : List ℕ) (s : Seat). act g s a)
-        (ap₂ (λ (q : Port) (g : List ℕ). staged (q .phase) a g) (seen-here d (c .port) e) (staging-here d (c .port) (l .staging) e)) seat-look
-
-    own-here : (a : Act) → inStepAt (c .port .phase) (driveAt c (c .port .selected)) a ≡ true
-        → Sim d (Own a) c cv (effectOf c l (Own a)) (effectOf cv lv (Own a))
-    own-here a h =
-        sim-of d (Own a) c l (effectOf c l (Own a)) (effectOf cv lv (Own a)) (record { is = refl }) (record { is = refl }) view
-        (ap (λ (r : Bool). pick r Raised Taken) (r .raised ∙ ap (λ (x : Acted). x .moved .raised) m′))
-        (r .given ∙ ap (λ (x : Acted). x .moved .given) m′) (r .byte ∙ ap (λ (x : Acted). x .moved .byte) m′)
-      where
-        m : Acted
-        m = act (stagedIn c a l .staging) (seatOf c l) a
-
-        n : Acted
-        n = act (staged (c .port .phase) a (stagingIn (c .port .phase) (l .staging))) (Agree.seen (seatOf c l)) a
-
-        r : Agree.Agree (stagedIn c a l .staging) (staged (c .port .phase) a (stagingIn (c .port .phase) (l .staging))) m n
-        r = Agree.act-agree (seatOf c l) (sound-seat c l k) (l .staging) (k .whole) a h
-
-        m′ : n ≡ act (stagedIn cv a lv .staging) (seatOf cv lv) a
-        m′ = sym (act-look a)
-
-        there : cv .port .selected ≡ d
-        there = ap (λ (q : Port). q .selected) (seen-here d (c .port) e) ∙ here
-
-        view : seenIn d (effectOf c l (Own a)) ≡ seenIn d (effectOf cv lv (Own a))
-        view =
-            here-alike d _ _ _ _ _ _ _ _ (r .port ∙ ap (λ (x : Acted). herePort (x .moved .port)) m′)
-            (r .block
-            ∙ ap₂ (λ (x : Acted) (g : List ℕ). stagingIn (x .moved .port .phase) g) m′
-            (ap₂ (λ (q : Port) (g : List ℕ). staged (q .phase) a g) (sym (seen-here d (c .port) e)) (sym (staging-here d (c .port) (l .staging) e))))
-            (put-there d (c .port .selected) (m .moved .drive) (c .drive0) (c .drive1) (c .drive2) (c .drive3) here
-            ∙ (r .drive ∙ ap (λ (x : Acted). x .moved .drive) m′)
-            ∙ sym (put-there d (cv .port .selected) (act (stagedIn cv a lv .staging) (seatOf cv lv) a .moved .drive) (cv .drive0) (cv .drive1)
-            (cv .drive2) (cv .drive3) there))
-            (put-there d (c .port .selected) (m .tape) (l .tape0) (l .tape1) (l .tape2) (l .tape3) here
-            ∙ (r .tape ∙ ap (λ (x : Acted). x .tape) m′)
-            ∙ sym (put-there d (cv .port .selected) (act (stagedIn cv a lv .staging) (seatOf cv lv) a .tape) (lv .tape0) (lv .tape1) (lv .tape2)
-            (lv .tape3) there))
-
-    -- every event while d is selected, but 07 to 0A for another drive
-    pub sim-here : (r : Change) (v : Event) (x : Answer) → reachesBy r d (c .port .selected) (c .port .online) x v ≡ true
-        → Sim d v c cv (settled c l v (refusalIn c v)) (settled cv lv v (refusalIn cv v))
-    unfolding pick
-    sim-here r NoEvent x h = refused-sim NoEvent Malformed refl
-    sim-here r Reset x h = reset-sim
-    sim-here r (Named i y) x h =
-        subst (λ (j : ℕ). Sim d (Named j y) c cv (settled c l (Named j y) (refusalIn c (Named j y)))
-        (settled cv lv (Named j y) (refusalIn cv (Named j y)))) (sym (eqb-true i d h)) (named-sim y)
-    sim-here r (Own a) x h =
-        subst (λ (b : Bool). Sim d (Own a) c cv (settled c l (Own a) (refusalIn c (Own a))) (settled cv lv (Own a) (pick b Taken OutOfStep)))
-        (sym (step-look a))
-        (go (inStepAt (c .port .phase) (driveAt c (c .port .selected)) a) refl)
-      where
-        go : (b : Bool) → inStepAt (c .port .phase) (driveAt c (c .port .selected)) a ≡ b
-            → Sim d (Own a) c cv (settled c l (Own a) (pick b Taken OutOfStep)) (settled cv lv (Own a) (pick b Taken OutOfStep))
-        go true q = own-here a q
-        go false q = refused-sim (Own a) OutOfStep refl
 
   -- ---- acts of another drive that reach d: a change of the level, and a SELECT of d
 
@@ -516,10 +179,10 @@ module _ (c : Core) (l : Lent) (k : Sound c l) (d : ℕ) (d3 : d ≤ 3) where
         → Sim d v c cv (settled c l v (refusalIn c v)) (settled cv lv v (refusalIn cv v))
     unfolding pick
     sim-away r NoEvent h = absurd (false≢true (sym f ∙ h))
-    sim-away r Reset h = reset-sim
+    sim-away r Reset h = reset-sim c l k d d3
     sim-away r (Named i y) h =
         subst (λ (j : ℕ). Sim d (Named j y) c cv (settled c l (Named j y) (refusalIn c (Named j y)))
-        (settled cv lv (Named j y) (refusalIn cv (Named j y)))) (sym (eqb-true i d h)) (named-sim y)
+        (settled cv lv (Named j y) (refusalIn cv (Named j y)))) (sym (eqb-true i d h)) (named-sim c l k d d3 y)
     sim-away r (Own a) h = go (inStepAt (c .port .phase) (driveAt c (c .port .selected)) a) refl (rw f at h)
       where
         go : (b : Bool) → inStepAt (c .port .phase) (driveAt c (c .port .selected)) a ≡ b
@@ -627,5 +290,5 @@ module _ (c : Core) (l : Lent) (k : Sound c l) (d : ℕ) (d3 : d ≤ 3) where
   sim r v h = go (eqb (c .port .selected) d) refl
     where
       go : (s : Bool) → eqb (c .port .selected) d ≡ s → Sim d v c cv (settled c l v (refusalIn c v)) (settled cv lv v (refusalIn cv v))
-      go true e = sim-here e r v _ h
+      go true e = sim-here c l k d d3 e r v _ h
       go false e = sim-away e r v h
