@@ -2,7 +2,6 @@
 ghost use mathlib.Core.Path.{_≡_};
 ghost use Rattle.basis.specs.Choice.{pick};
 ghost use Rattle.rules.specs.Answer.{rowOf};
-ghost use Rattle.rules.specs.Phase.{restOrStatus, isStatus};
 ghost use Rattle.rules.specs.Lines.{linesOf, linesDown};
 use rules::Answer;
 use rules::Core;

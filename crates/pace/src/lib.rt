@@ -1,65 +1,11 @@
 // Loops over the step, for a program in C that takes their time.
-ghost use mathlib.Core.Path.{_≡_};
-ghost use Rattle.rules.specs.Unit.{lent};
-ghost use Rattle.rules.specs.Ran.{RunsTo};
-ghost use Rattle.pace.specs.Pairs.{pairsOf, Paced};
+ghost use Rattle.pace.specs.Pairs.{Paced};
 use rules::Core;
 use rules::Unit;
 use tape::BODY;
 use trace::kind_size;
 
-// Each pair of bytes as one event of its kind's size, on a core with its staging block lent.
-fn run_core(
-    core: Core,
-    staging: &mut [u8; BODY],
-    tape0: &mut [u8],
-    tape1: &mut [u8],
-    tape2: &mut [u8],
-    tape3: &mut [u8],
-    pairs: &[u8],
-) -> Core
-    ensures { λ r. ⌜ RunsTo core
-        (lent (now (staging .entry)) (now (tape0 .entry)) (now (tape1 .entry)) (now (tape2 .entry)) (now (tape3 .entry)))
-        (pairsOf (now (pairs .entry))) r
-        (lent (now (staging .exit)) (now (tape0 .exit)) (now (tape1 .exit)) (now (tape2 .exit)) (now (tape3 .exit))) ⌝ }
-{
-    let mut after = core;
-    let mut i = 0;
-    while i + 1 < pairs.len() {
-        let end = i + kind_size(pairs[i]);
-        let turn = unit::step_core(after, staging, tape0, tape1, tape2, tape3, &pairs[i..end]);
-        after = turn.core;
-        i += 2;
-    }
-    after
-}
-
-// The same on a unit that holds its staging block.
-fn run_unit(
-    whole: Unit,
-    tape0: &mut [u8],
-    tape1: &mut [u8],
-    tape2: &mut [u8],
-    tape3: &mut [u8],
-    pairs: &[u8],
-) -> Unit
-    ensures { λ r. ⌜ RunsTo (whole .core)
-        (lent (whole .staging) (now (tape0 .entry)) (now (tape1 .entry)) (now (tape2 .entry)) (now (tape3 .entry)))
-        (pairsOf (now (pairs .entry))) (r .core)
-        (lent (r .staging) (now (tape0 .exit)) (now (tape1 .exit)) (now (tape2 .exit)) (now (tape3 .exit))) ⌝ }
-{
-    let mut after = whole;
-    let mut i = 0;
-    while i + 1 < pairs.len() {
-        let end = i + kind_size(pairs[i]);
-        let outcome = unit::step(after, tape0, tape1, tape2, tape3, &pairs[i..end]);
-        after = outcome.unit;
-        i += 2;
-    }
-    after
-}
-
-// A fresh unit over pairs of bytes, by the step on a core. What is handed back is the number of the selected drive.
+// A fresh core over pairs of bytes, each an event of its kind's size. What is handed back is the number of the selected drive.
 #[no_mangle]
 pub extern "C" fn pace_core(
     tape0: &mut [u8],
@@ -72,19 +18,26 @@ pub extern "C" fn pace_core(
         (now (tape0 .exit)) (now (tape1 .exit)) (now (tape2 .exit)) (now (tape3 .exit)) ⌝ }
 {
     let mut staging = [0; BODY];
-    let after = run_core(
-        Core::fresh(),
-        &mut staging,
-        tape0,
-        tape1,
-        tape2,
-        tape3,
-        pairs,
-    );
+    let mut after = Core::fresh();
+    let mut i = 0;
+    while i + 1 < pairs.len() {
+        let end = i + kind_size(pairs[i]);
+        let turn = unit::step_core(
+            after,
+            &mut staging,
+            tape0,
+            tape1,
+            tape2,
+            tape3,
+            &pairs[i..end],
+        );
+        after = turn.core;
+        i += 2;
+    }
     after.port.selected
 }
 
-// The same by the step on a unit.
+// The same on a unit that holds its staging block.
 #[no_mangle]
 pub extern "C" fn pace_unit(
     tape0: &mut [u8],
@@ -96,6 +49,13 @@ pub extern "C" fn pace_unit(
     ensures { λ r. ⌜ Paced (now (tape0 .entry)) (now (tape1 .entry)) (now (tape2 .entry)) (now (tape3 .entry)) (now (pairs .entry)) r
         (now (tape0 .exit)) (now (tape1 .exit)) (now (tape2 .exit)) (now (tape3 .exit)) ⌝ }
 {
-    let after = run_unit(Unit::fresh(), tape0, tape1, tape2, tape3, pairs);
+    let mut after = Unit::fresh();
+    let mut i = 0;
+    while i + 1 < pairs.len() {
+        let end = i + kind_size(pairs[i]);
+        let outcome = unit::step(after, tape0, tape1, tape2, tape3, &pairs[i..end]);
+        after = outcome.unit;
+        i += 2;
+    }
     after.core.port.selected
 }

@@ -54,17 +54,17 @@ loop-again c =
       omega (arith, test .loop-test .taken),
     )
 
-same-length : tie.Need-same-length Inv-loop μ-loop
-same-length c = search needs
+kept-0 : tie.Need-same-length Inv-loop μ-loop
+kept-0 c = search needs
 
-same-length-2 : tie.Need-same-length-2 Inv-loop μ-loop
-same-length-2 c = search needs
+kept-1 : tie.Need-same-length-2 Inv-loop μ-loop
+kept-1 c = search needs
 
-same-length-3 : tie.Need-same-length-3 Inv-loop μ-loop
-same-length-3 c = search needs
+kept-2 : tie.Need-same-length-3 Inv-loop μ-loop
+kept-2 c = search needs
 
-same-length-4 : tie.Need-same-length-4 Inv-loop μ-loop
-same-length-4 c = search needs
+kept-3 : tie.Need-same-length-4 Inv-loop μ-loop
+kept-3 c = search needs
 
 returns : tie.Need-returns Inv-loop μ-loop
 returns c =
@@ -84,8 +84,8 @@ give-bytes-spec =
     add-i
     loop-less
     loop-again
-    same-length
-    same-length-2
-    same-length-3
-    same-length-4
+    kept-0
+    kept-1
+    kept-2
+    kept-3
     returns)
