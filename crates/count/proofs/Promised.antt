@@ -1,4 +1,4 @@
--- What is promised of a move f of the drive record: by value, of a record that is lent, and of a core with drive n moved in it.
+-- What is promised of a move f of the drive record: by value, of a record that is lent, and of a core with one drive moved in it.
 use mathlib.Core.Path.{_≡_}
 use Prim.Native.Nat.{ℕ}
 use mathlib.Core.List.{[], _∷_}
@@ -7,7 +7,7 @@ use base.Logic.{emp}
 use prog.Wp.{Heap}
 use ghost.Atoms.{Atoms}
 use contract.Monad.{fact}
-use denote.Builtin.{unit, RefMutOf}
+use denote.Builtin.{u8, unit, RefMutOf}
 use denote.Exit.{yes}
 use denote.Ref.{now}
 use denote.Signature.{plain}
@@ -42,12 +42,13 @@ OnLoan =
       kept = (yes, tt);
     }
 
--- The core goes in and comes back.
+-- The core goes in with the number of a drive, and comes back.
 abbrev pub OfCore : Ended
 OfCore =
     record {
-      signature = record { lifetimes = 0; outlives = []; params = plain (λ _. K.the-row) ∷ []; result = plain (λ _. K.the-row) };
-      kept = (yes, tt);
+      signature =
+          record { lifetimes = 0; outlives = []; params = plain (λ _. K.the-row) ∷ plain (λ _. u8) ∷ []; result = plain (λ _. K.the-row) };
+      kept = (yes, (yes, tt));
     }
 
 -- All is as it was, but for drive n.
@@ -61,8 +62,8 @@ module _ {M : Type 1} (𝓤 : URA M) (f : Drive → Drive) where
   abbrev pub left : Clauses 𝓤 OnLoan
   left κs a = record { ghost = Unit {0}; requires = λ _. emp 𝓤; ensures = λ _ _ e. fact 𝓤 (now (e .0) ≡ f (now (a .0))) }
 
-  abbrev pub handed : ℕ → Clauses 𝓤 OfCore
-  handed n κs a = record { ghost = Unit {0}; requires = λ _. emp 𝓤; ensures = λ _ r _. fact 𝓤 (r ≡ movedAt f n (a .0)) }
+  abbrev pub handed : Clauses 𝓤 OfCore
+  handed κs a = record { ghost = Unit {0}; requires = λ _. emp 𝓤; ensures = λ _ r _. fact 𝓤 (r ≡ movedAt f (a .1 .0) (a .0)) }
 
   module _ (H : Heap 𝓤) (A : Atoms 𝓤) where
     abbrev pub Returns : Contract 𝓤
@@ -71,5 +72,5 @@ module _ {M : Type 1} (𝓤 : URA M) (f : Drive → Drive) where
     abbrev pub Leaves : Contract 𝓤
     Leaves = tripleOf 𝓤 H A (OnLoan .signature) (closing 𝓤 H A OnLoan left)
 
-    abbrev pub Hands : ℕ → Contract 𝓤
-    Hands n = tripleOf 𝓤 H A (OfCore .signature) (closing 𝓤 H A OfCore (handed n))
+    abbrev pub Hands : Contract 𝓤
+    Hands = tripleOf 𝓤 H A (OfCore .signature) (closing 𝓤 H A OfCore handed)

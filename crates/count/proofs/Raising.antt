@@ -15,8 +15,10 @@ use prog.Wp.{Heap, Calls, Loops, WpFn, Tables, Closed}
 use ghost.Atoms.{Atoms, sem}
 use contract.Monad.{fact}
 use contract.Running.{GhostRules, Running, givenOf, tables, tablesOf}
-use types.Kit.{Given, ‵, raw, _⊛_, some, later, _$_, _∵_, !, qed, by, move, keep, drop, use1, split, join, pick, fsplit, fsplit3, fjoin, fjoin3, feqI, suffices, frame, await, done}
-use types.Run.{look, look-raw, init, store-raw, forget, stop, hop, from, load, unit-lit, and-then, no-more, land, of-opd, assigns, returns, enter, alloc1, alloc0, params1, pass1, pass0, free1, free0}
+use types.Kit.{Given, ‵, raw, _⊛_, some, later, _$_, _∵_, !, qed, by, move, keep, drop}
+use types.Kit.{use1, split, join, pick, fsplit, fsplit3, fjoin, fjoin3, feqI, suffices, frame, await, done}
+use types.Run.{look, look-raw, init, store-raw, forget, stop, hop, from, load, unit-lit, and-then, no-more, land, of-opd}
+use types.Run.{assigns, returns, enter, alloc1, alloc0, params1, pass1, pass0, free1, free0}
 use types.SemTy.{Body}
 use sound.WpLaws.{FmC, fmOf, WpFn-mono}
 use denote.RattleType.{owns}
@@ -134,7 +136,8 @@ module _ {M : Type 1} (𝓤 : URA M) (H : Heap 𝓤) (A : Atoms 𝓤) (W : Given
       walk-meets 𝓤 H A OnLoan stayed W goes (left 𝓤 f) (WpFn 𝓤 H (𝓣 .C) (𝓣 .Λ) (function k)) (WpFn-mono 𝓤 H (W .laws) 𝓣 (function k))
       (walks (𝓣 .C) (𝓣 .Λ) (fmOf 𝓤 H (W .laws) 𝓣) k known)
 
--- Code that is named n in the environment env, and calls there under the name k a routine that returns what f makes of the record, meets a contract that says: that is left in what was lent.
+-- Code that is named n in the environment env, and calls there under the name k a routine that returns what f makes of the record, meets a
+-- contract that says: that is left in what was lent.
 module _ {M : Type 1} (𝓤 : URA M) (H : Heap 𝓤) (𝓜 : Model 𝓤 H) (𝓖 : GhostRules 𝓤 H) (𝓡 : Running 𝓤 H 𝓜) (f : Drive → Drive) where
   pub leaves : (c : Clauses 𝓤 OnLoan) → c ≡ left 𝓤 f → (env : Env) (n k : Name) (g : Routine)
       → Closed 𝓤 H (tables 𝓤 H 𝓜 𝓡 env .C) (tables 𝓤 H 𝓜 𝓡 env .Λ) n (function k) → env k ≡ g → Triple 𝓤 (𝓡 .run g) (Returns 𝓤 f H (𝓖 .A))

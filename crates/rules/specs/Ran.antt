@@ -53,7 +53,8 @@ LoopGoesOn =
     (c : Core) (l : Lent) (event : List ℕ) (r : Turn) (l′ : Lent) (still rest : List (List ℕ))
     → Steps c l event r l′ → still ≡ event ∷ rest → Goes c l event r l′ still rest
 
--- Where such a loop stands that began with core c₀ and what is lent as l₀: what is still to come leads where all of it led, and each tape has its length.
+-- Where such a loop stands that began with core c₀ and what is lent as l₀:
+-- what is still to come leads where all of it led, and each tape has its length.
 pub record SameSizes (l l₀ : Lent) : Type 0 where
   pub size0 : length (l .tape0) ≡ length (l₀ .tape0)
   pub size1 : length (l .tape1) ≡ length (l₀ .tape1)

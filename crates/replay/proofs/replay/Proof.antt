@@ -67,15 +67,15 @@ go-on-requires c κs =
 
 sub-turns : tie.Need-sub-turns Inv-loop μ-loop
 sub-turns c =
-    let c26 =
-    c .before .before .before .before .before .before .before .before .before .before .before .before .before .before .before .before .before .before .before .before .before .before .before .before .before .before in
+    let c13 = c .before .before .before .before .before .before .before .before .before .before .before .before .before in
+    let c26 = c13 .before .before .before .before .before .before .before .before .before .before .before .before .before in
     let l = c26 .before .loop in
     turn-left (l .going) (l .turns) (c26 .loop-test .taken)
 
 loop-less : tie.Need-loop-less Inv-loop μ-loop
 loop-less c =
-    let c26 =
-    c .before .before .before .before .before .before .before .before .before .before .before .before .before .before .before .before .before .before .before .before .before .before .before .before .before .before in
+    let c13 = c .before .before .before .before .before .before .before .before .before .before .before .before .before in
+    let c26 = c13 .before .before .before .before .before .before .before .before .before .before .before .before .before in
     let l = c26 .before .loop in
     let h = turn-left (l .going) (l .turns) (c26 .loop-test .taken) in
     omega arith
@@ -83,7 +83,8 @@ loop-less c =
 loop-again : tie.Need-loop-again Inv-loop μ-loop
 loop-again c =
     let c3 = c .before .before .before in
-    let c17 = c3 .before .before .before .before .before .before .before .before .before .before .before .before .before .before in
+    let c10 = c3 .before .before .before .before .before .before .before in
+    let c17 = c10 .before .before .before .before .before .before .before in
     let c27 = c17 .before .before .before .before .before .before .before .before .before .before in
     let l = c27 .loop in
     let k = c3 .go-on .kept .1 .1 .0 in (

@@ -11,15 +11,15 @@ step-core-requires c κs = search needs
 
 add-put-line : tie.Need-add-put-line
 add-put-line c =
-    let c23 =
-    c .before .before .before .before .before .before .before .before .before .before .before .before .before .before .before .before .before .before .before .before .before .before .before in
+    let c11 = c .before .before .before .before .before .before .before .before .before .before .before in
+    let c23 = c11 .before .before .before .before .before .before .before .before .before .before .before .before in
     let a = c23 .args in
     omega (arith, room-fits (length (a .out .now)) (a .full) (a .count) (c23 .pre) .0)
 
 put-line-requires : tie.Need-put-line-requires
 put-line-requires c κs =
-    let c23 =
-    c .before .before .before .before .before .before .before .before .before .before .before .before .before .before .before .before .before .before .before .before .before .before .before in
+    let c11 = c .before .before .before .before .before .before .before .before .before .before .before in
+    let c23 = c11 .before .before .before .before .before .before .before .before .before .before .before .before in
     let a = c23 .args in
     room-fits (length (a .out .now)) (a .full) (a .count) (c23 .pre) .1
 

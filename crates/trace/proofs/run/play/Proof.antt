@@ -90,8 +90,8 @@ answer-event-requires c κs =
 
 add-n : tie.Need-add-n Inv-loop μ-loop
 add-n c =
-    let c19 =
-    c .before .before .before .before .before .before .before .before .before .before .before .before .before .before .before .before .before .before .before in
+    let c9 = c .before .before .before .before .before .before .before .before .before in
+    let c19 = c9 .before .before .before .before .before .before .before .before .before .before in
     let c24 = c19 .before .before .before .before .before in
     let l = c24 .loop in
     omega (arith, room-fits (length (l .out)) (l .written) (l .n) (told (c19 .before .has-room .ensures) (c19 .if2 .taken)) .0)
@@ -139,8 +139,8 @@ returns-2 c =
 
 loop-less : tie.Need-loop-less Inv-loop μ-loop
 loop-less c =
-    let c22 =
-    c .before .before .before .before .before .before .before .before .before .before .before .before .before .before .before .before .before .before .before .before .before .before in
+    let c11 = c .before .before .before .before .before .before .before .before .before .before .before in
+    let c22 = c11 .before .before .before .before .before .before .before .before .before .before .before in
     let c25 = c22 .before .before .before in
     let h = event-inside (c25 .loop .inv .0) (c22 .before .next-size .ensures) in
     omega (arith, c22 .if1 .left)
