@@ -4,22 +4,18 @@ ghost use Rattle.rules.specs.Unit.{driveAt};
 ghost use Rattle.answers.specs.Looks.{lookOf};
 use rules::Core;
 use rules::Drive;
-use rules::Mode;
 
-// A cartridge in, the mode, and whether the drive takes data.
+// A cartridge in, and whether the drive takes data.
 pub struct Seen {
     pub loaded: bool,
-    pub mode: Mode,
     pub writes: bool,
 }
 
-fn look_at(drive: Drive) -> Seen
+fn sight(drive: Drive) -> Seen
     ensures { λ r. ⌜ r ≡ lookOf drive ⌝ }
 {
-    let mode = drive.mode;
     Seen {
         loaded: drive.loaded,
-        mode,
         writes: drive.writes(),
     }
 }
@@ -28,9 +24,9 @@ pub fn look(core: Core, i: u8) -> Seen
     ensures { λ r. ⌜ r ≡ lookOf (driveAt core i) ⌝ }
 {
     match i {
-        0 => look_at(core.drive0),
-        1 => look_at(core.drive1),
-        2 => look_at(core.drive2),
-        _ => look_at(core.drive3),
+        0 => sight(core.drive0),
+        1 => sight(core.drive1),
+        2 => sight(core.drive2),
+        _ => sight(core.drive3),
     }
 }

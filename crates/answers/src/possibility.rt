@@ -3,7 +3,6 @@ ghost use mathlib.Core.Path.{_≡_};
 ghost use Rattle.rules.specs.Unit.{driveAt};
 ghost use Rattle.rules.specs.Refusal.{modeFits, possibleDrive, possiblePhase, possible};
 use crate::LAST_DRIVE;
-use crate::looks::look;
 use rules::Core;
 use rules::Drive;
 use rules::LAST_PLACE;
@@ -49,14 +48,27 @@ fn possible_phase(phase: Phase, mode: Mode) -> bool
     }
 }
 
-// The phase beside the mode of the selected drive.
+// The same beside a drive's whole record.
+fn possible_at(phase: Phase, drive: Drive) -> bool
+    ensures { λ r. ⌜ r ≡ possiblePhase phase (drive .mode) ⌝ }
+{
+    let mode = drive.mode;
+    possible_phase(phase, mode)
+}
+
+// The phase beside the selected drive: each drive is called by its name, since a look by number copies the record.
 fn possible_place(core: Core) -> bool
     ensures { λ r. ⌜ r ≡ possiblePhase (core .port .phase) (driveAt core (core .port .selected) .mode) ⌝ }
 {
     let port = core.port;
     let phase = port.phase;
-    let mode = look(core, port.selected).mode;
-    possible_phase(phase, mode)
+    let i = port.selected;
+    match i {
+        0 => possible_at(phase, core.drive0),
+        1 => possible_at(phase, core.drive1),
+        2 => possible_at(phase, core.drive2),
+        _ => possible_at(phase, core.drive3),
+    }
 }
 
 // The selected drive's number, the phase, and each of the four drives.

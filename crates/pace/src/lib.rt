@@ -1,5 +1,7 @@
 // Loops over the step, for a program in C that takes their time.
-ghost use Rattle.pace.specs.Pairs.{Paced};
+ghost use Rattle.rules.specs.Unit.{lent};
+ghost use Rattle.rules.specs.Ran.{RunsTo};
+ghost use Rattle.pace.specs.Pairs.{pairsOf, Paced};
 use rules::Core;
 use rules::Unit;
 use tape::BODY;
@@ -37,7 +39,32 @@ pub extern "C" fn pace_core(
     after.port.selected
 }
 
-// The same on a unit that holds its staging block.
+// The same on a unit that holds its staging block: the loop is apart, so that the record is copied whole.
+fn run_unit(
+    whole: Unit,
+    tape0: &mut [u8],
+    tape1: &mut [u8],
+    tape2: &mut [u8],
+    tape3: &mut [u8],
+    pairs: &[u8],
+) -> Unit
+    ensures { λ r. ⌜ RunsTo (whole .core)
+        (lent (whole .staging) (now (tape0 .entry)) (now (tape1 .entry)) (now (tape2 .entry)) (now (tape3 .entry)))
+        (pairsOf (now (pairs .entry))) (r .core)
+        (lent (r .staging) (now (tape0 .exit)) (now (tape1 .exit)) (now (tape2 .exit)) (now (tape3 .exit))) ⌝ }
+{
+    let mut after = whole;
+    let mut i = 0;
+    while i + 1 < pairs.len() {
+        let end = i + kind_size(pairs[i]);
+        let outcome = unit::step(after, tape0, tape1, tape2, tape3, &pairs[i..end]);
+        after = outcome.unit;
+        i += 2;
+    }
+    after
+}
+
+// From a fresh unit.
 #[no_mangle]
 pub extern "C" fn pace_unit(
     tape0: &mut [u8],
@@ -49,13 +76,6 @@ pub extern "C" fn pace_unit(
     ensures { λ r. ⌜ Paced (now (tape0 .entry)) (now (tape1 .entry)) (now (tape2 .entry)) (now (tape3 .entry)) (now (pairs .entry)) r
         (now (tape0 .exit)) (now (tape1 .exit)) (now (tape2 .exit)) (now (tape3 .exit)) ⌝ }
 {
-    let mut after = Unit::fresh();
-    let mut i = 0;
-    while i + 1 < pairs.len() {
-        let end = i + kind_size(pairs[i]);
-        let outcome = unit::step(after, tape0, tape1, tape2, tape3, &pairs[i..end]);
-        after = outcome.unit;
-        i += 2;
-    }
+    let after = run_unit(Unit::fresh(), tape0, tape1, tape2, tape3, pairs);
     after.core.port.selected
 }

@@ -8,43 +8,43 @@ use borrow.Author.Needs.{needs}
 use Rattle.answers.proofs.looks.look.Statement.{statement}
 use Rattle.answers.proofs.looks.look.Tie as tie
 
-look-at-requires : tie.Need-look-at-requires
-look-at-requires c κs = search needs
+sight-requires : tie.Need-sight-requires
+sight-requires c κs = search needs
 
-look-at-requires-2 : tie.Need-look-at-requires-2
-look-at-requires-2 c κs = search needs
+sight-requires-2 : tie.Need-sight-requires-2
+sight-requires-2 c κs = search needs
 
-look-at-requires-3 : tie.Need-look-at-requires-3
-look-at-requires-3 c κs = search needs
+sight-requires-3 : tie.Need-sight-requires-3
+sight-requires-3 c κs = search needs
 
-look-at-requires-4 : tie.Need-look-at-requires-4
-look-at-requires-4 c κs = search needs
+sight-requires-4 : tie.Need-sight-requires-4
+sight-requires-4 c κs = search needs
 
 returns : tie.Need-returns
 unfolding oneOf pick
-returns c = rw (c .look-at .ensures, c .before .match .keys1)
+returns c = rw (c .sight .ensures, c .before .match .keys1)
 
 returns-2 : tie.Need-returns-2
 unfolding oneOf pick
-returns-2 c = rw (c .look-at2 .ensures, c .before .match .keys2)
+returns-2 c = rw (c .sight2 .ensures, c .before .match .keys2)
 
 returns-3 : tie.Need-returns-3
 unfolding oneOf pick
-returns-3 c = rw (c .look-at3 .ensures, c .before .match .keys3)
+returns-3 c = rw (c .sight3 .ensures, c .before .match .keys3)
 
 returns-4 : tie.Need-returns-4
 returns-4 c =
     let no = c .before .match .rest in
-    c .look-at4 .ensures ∙ ap lookOf (sym (last-one (c .before .before .args .i) _ _ _ _ (no .0 .0 .1) (no .0 .1) (no .1)))
+    c .sight4 .ensures ∙ ap lookOf (sym (last-one (c .before .before .args .i) _ _ _ _ (no .0 .0 .1) (no .0 .1) (no .1)))
 
 pub look-spec : {M : Type 1} → statement M
 look-spec =
     tie.close
     (tie.spec
-    look-at-requires
-    look-at-requires-2
-    look-at-requires-3
-    look-at-requires-4
+    sight-requires
+    sight-requires-2
+    sight-requires-3
+    sight-requires-4
     returns
     returns-2
     returns-3
