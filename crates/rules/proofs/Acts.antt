@@ -160,9 +160,9 @@ module _ (g : List ℕ) (s : Seat) (ok : SoundSeat s) where
   commanded-does c o e Plugged h = meets-plug c
   commanded-does c o e Full h = finds-no-room c
 
-  gave-does : (b n : ℕ) → s .drive .mode ≡ Writing → Does g s (Give b) (byteGiven g s n)
+  given-does : (b n : ℕ) → s .drive .mode ≡ Writing → Does g s (Give b) (byteGiven g s n)
   unfolding stored afterBlock
-  gave-does b n w =
+  given-does b n w =
       by-test (ltb n 511) (λ h. stages b n (omega (arith, ltb-true n 511 h)) w)
       (λ _. by-test (roomToWrite (s .drive) (s .tape))
       (λ r. by-test _ (λ _. records-block b w (leb-true _ _ r)) (λ _. records-last b w (leb-true _ _ r)))
@@ -175,20 +175,20 @@ module _ (g : List ℕ) (s : Seat) (ok : SoundSeat s) where
       by-test (ltb n 511) (λ h. hands-byte n (omega (arith, ltb-true n 511 h)) w e)
       (λ h. hands-last (q (omega (arith, ltb-false n 511 h))) w e)
 
-  took-does : (ph : Phase) → s .port .phase ≡ ph → possiblePhase ph (s .drive .mode) ≡ true → gives ph (reads (s .drive)) ≡ true
+  taken-does : (ph : Phase) → s .port .phase ≡ ph → possiblePhase ph (s .drive .mode) ≡ true → gives ph (reads (s .drive)) ≡ true
       → Does g s Take (byteTaken s ph)
   unfolding octetTaken possiblePhase
-  took-does Rest e k h =
+  taken-does Rest e k h =
       let w = reading-is (s .drive .mode) (both (isReading (s .drive .mode)) (not (s .drive .exception)) h .0) in
       by-test (checked (s .tape) (s .drive) .raised) (λ r. meets-edge r)
       (λ r. handed-does 0 (omega arith) (λ z. absurd (omega (arith, z))) w (unraised-block (s .tape) (s .drive) r))
-  took-does (Taking n) e k h = absurd (false≢true h)
-  took-does (Giving n) e k h =
+  taken-does (Taking n) e k h = absurd (false≢true h)
+  taken-does (Giving n) e k h =
       let p = both (leb n 511) (isReading (s .drive .mode)) (both (leb 1 n) _ k .1) in
       by-test (isBlock (foundAt (s .tape) (s .drive .head)))
       (λ r. handed-does n (leb-true n 511 (p .0)) (λ z. e ∙ ap Giving z) (reading-is (s .drive .mode) (p .1)) (block-is _ r))
       (λ _. finds-no-block)
-  took-does (Status j) e k h = hands-octet j e
+  taken-does (Status j) e k h = hands-octet j e
 
   leaving-does : (m : Mode) → s .drive .mode ≡ m → Does g s Offline (leaving s m)
   leaving-does Idle e = goes-home
@@ -204,7 +204,7 @@ module _ (g : List ℕ) (s : Seat) (ok : SoundSeat s) where
 
   pub act-does : (a : Act) → inStepAt (s .port .phase) (s .drive) a ≡ true → Does g s a (act g s a)
   act-does (Command c) h = commanded-does c (orderOf c) refl _ refl
-  act-does (Give b) h = gave-does b (givenBefore (s .port .phase)) (taking-writing (s .port .phase) (s .drive) h)
-  act-does Take h = took-does (s .port .phase) refl (ok .phase) h
+  act-does (Give b) h = given-does b (givenBefore (s .port .phase)) (taking-writing (s .port .phase) (s .drive) h)
+  act-does Take h = taken-does (s .port .phase) refl (ok .phase) h
   act-does Online h = goes-up
   act-does Offline h = dropped-does

@@ -100,12 +100,12 @@ module _ (s : Seat) (g g′ : List ℕ) where
       same refl refl (ap (λ (o : List ℕ). getD o (octetPlace k) 0) e)
       (ap (λ (o : List ℕ). record { selected = s .port .selected; online = s .port .online; phase = Status (k - 1); octets = o }) e) refl refl refl
 
-  took-agree : (ph : Phase) → s .port .phase ≡ ph → gives ph (reads (s .drive)) ≡ true → Agree g g′ (byteTaken s ph) (byteTaken (seen s) ph)
+  taken-agree : (ph : Phase) → s .port .phase ≡ ph → gives ph (reads (s .drive)) ≡ true → Agree g g′ (byteTaken s ph) (byteTaken (seen s) ph)
   unfolding octetTaken
-  took-agree Rest e h = first-agree (checked (s .tape) (s .drive))
-  took-agree (Taking n) e h = absurd (false≢true h)
-  took-agree (Giving n) e h = next-agree n (isBlock (foundAt (s .tape) (s .drive .head)))
-  took-agree (Status k) e h = octet-agree k (ap (λ (q : Phase). octetsIn q (s .port .octets)) (sym e)) (leb k 1)
+  taken-agree Rest e h = first-agree (checked (s .tape) (s .drive))
+  taken-agree (Taking n) e h = absurd (false≢true h)
+  taken-agree (Giving n) e h = next-agree n (isBlock (foundAt (s .tape) (s .drive .head)))
+  taken-agree (Status k) e h = octet-agree k (ap (λ (q : Phase). octetsIn q (s .port .octets)) (sym e)) (leb k 1)
 
   leaving-agree : (m : Mode) → Agree g g′ (leaving s m) (leaving (seen s) m)
   leaving-agree Idle = same refl refl refl refl refl refl refl
@@ -155,10 +155,10 @@ module _ (s : Seat) (ok : SoundSeat s) (g : List ℕ) (whole : length g ≡ 512)
   abbrev cut : List ℕ
   cut = stagingIn (s .port .phase) g
 
-  gave-agree : (n b : ℕ) → n ≤ 511 → take n g ≡ take n cut → length cut ≡ 512
+  given-agree : (n b : ℕ) → n ≤ 511 → take n g ≡ take n cut → length cut ≡ 512
       → Agree (set g (placeOf n) b) (set cut (placeOf n) b) (byteGiven (set g (placeOf n) b) s n) (byteGiven (set cut (placeOf n) b) (seen s) n)
   unfolding pick
-  gave-agree n b h e w = go (ltb n 511) refl
+  given-agree n b h e w = go (ltb n 511) refl
     where
       go : (c : Bool) → ltb n 511 ≡ c → Agree (set g (pick c n 511) b) (set cut (pick c n 511) b)
           (pick c (leaves false (atPhase (Taking (n + 1)) (s .port)) (s .drive) (s .tape))
@@ -177,8 +177,8 @@ module _ (s : Seat) (ok : SoundSeat s) (g : List ℕ) (whole : length g ≡ 512)
   act-agree (Command c) h = commanded-agree s g cut (orderOf c) (faultOf s (orderOf c))
   act-agree (Give b) h =
       let below = place-below (s .port .phase) (s .drive .mode) (ok .phase) in
-      gave-agree (givenBefore (s .port .phase)) b below (given-seen (s .port .phase) g below whole)
+      given-agree (givenBefore (s .port .phase)) b below (given-seen (s .port .phase) g below whole)
       (staging-length (s .port .phase) (s .drive .mode) g (ok .phase) whole)
-  act-agree Take h = took-agree s g cut (s .port .phase) refl h
+  act-agree Take h = taken-agree s g cut (s .port .phase) refl h
   act-agree Online h = same refl refl refl refl refl refl refl
   act-agree Offline h = dropped-agree s g cut

@@ -61,9 +61,9 @@ checked-ill : (t : List ℕ) (d : Drive) → checked t d .drive .latched .ill �
 unfolding checked
 checked-ill t d = edged-ill (foundAt t (d .head)) d
 
-searched-ill : (r : Passed) (d : Drive) → standing r d .latched .ill ≡ d .latched .ill
-searched-ill (Past at) d = refl
-searched-ill (Stopped at w) d = halted-ill w (passedTo at d)
+standing-ill : (r : Passed) (d : Drive) → standing r d .latched .ill ≡ d .latched .ill
+standing-ill (Past at) d = refl
+standing-ill (Stopped at w) d = halted-ill w (passedTo at d)
 
 ordered-ill : (s : Seat) (o : Order) → ordered s o .moved .drive .latched .ill ≡ true → s .drive .latched .ill ≡ true
 ordered-ill s NoOrder h = h
@@ -74,7 +74,7 @@ ordered-ill s Initialize h = h
 ordered-ill s Write h = h
 ordered-ill s WriteMark h = h
 ordered-ill s Read h = sym (checked-ill (s .tape) (inMode Reading (s .drive))) ∙ h
-ordered-ill s ReadMark h = sym (searched-ill (passed (s .tape) (s .drive .head)) (s .drive)) ∙ h
+ordered-ill s ReadMark h = sym (standing-ill (passed (s .tape) (s .drive .head)) (s .drive)) ∙ h
 ordered-ill s ReadStatus h = absurd (false≢true h)
 
 commanded-ill : (s : Seat) (o : Order) (f : Fault) → (f ≡ Illegal → ⊥) → commanded s o f .moved .drive .latched .ill ≡ true

@@ -37,9 +37,9 @@ halted-up End d = refl
 halted-up Unknown d = refl
 halted-up Bad d = refl
 
-searched-up : (r : Passed) (d : Drive) → standing r d .exception ≡ true
-searched-up (Past at) d = refl
-searched-up (Stopped at w) d = halted-up w (passedTo at d)
+standing-up : (r : Passed) (d : Drive) → standing r d .exception ≡ true
+standing-up (Past at) d = refl
+standing-up (Stopped at w) d = halted-up w (passedTo at d)
 
 edged-up : (f : Found) (d : Drive) → not (isBlock f) ≡ true → edged f d .exception ≡ true
 edged-up Block d h = absurd (false≢true h)
@@ -98,9 +98,9 @@ halted-report End d h = report-more d _ Ndt refl refl refl
 halted-report Unknown d h = report-more d _ Ude refl refl refl
 halted-report Bad d h = report-more d _ Ude refl refl refl
 
-searched-report : (r : Passed) (d : Drive) → ReportStays d (standing r d)
-searched-report (Past at) d = report-more d _ Fil refl refl refl
-searched-report (Stopped at w) d = halted-report w d at
+standing-report : (r : Passed) (d : Drive) → ReportStays d (standing r d)
+standing-report (Past at) d = report-more d _ Fil refl refl refl
+standing-report (Stopped at w) d = halted-report w d at
 
 edged-report : (f : Found) (d : Drive) → ReportStays d (edged f d)
 edged-report Block d = report-same d d refl refl refl
@@ -205,7 +205,7 @@ module _ (g : List ℕ) (s : Seat) where
   does-leaf a m (Acts.sets-reading c p) = silent a m (edge m (inMode Reading (s .drive)) refl refl refl refl refl refl) (λ _. unchanged) refl refl
   does-leaf a m (Acts.searches c) =
       let r = passed (s .tape) (s .drive .head) in
-      silent a m (loud m refl (searched-up r (s .drive)) (searched-report r (s .drive))) (λ _. unchanged) refl refl
+      silent a m (loud m refl (standing-up r (s .drive)) (standing-report r (s .drive))) (λ _. unchanged) refl refl
   does-leaf a m Acts.reports =
       record {
         held = λ _ n. absurd (n refl);

@@ -53,14 +53,14 @@ LoopGoesOn =
     (c : Core) (l : Lent) (event : List ℕ) (r : Turn) (l′ : Lent) (still rest : List (List ℕ))
     → Steps c l event r l′ → still ≡ event ∷ rest → Goes c l event r l′ still rest
 
--- Where such a loop stands that began with core c₀ and what is lent as l₀:
--- what is still to come leads where all of it led, and each tape has its length.
+-- Each tape has the length that it had.
 pub record SameSizes (l l₀ : Lent) : Type 0 where
   pub size0 : length (l .tape0) ≡ length (l₀ .tape0)
   pub size1 : length (l .tape1) ≡ length (l₀ .tape1)
   pub size2 : length (l .tape2) ≡ length (l₀ .tape2)
   pub size3 : length (l .tape3) ≡ length (l₀ .tape3)
 
+-- Where such a loop stands that began with core c₀ and what is lent as l₀: what is still to come leads where all of it led.
 pub record UnderWay (c₀ : Core) (l₀ : Lent) (whole : List (List ℕ)) (c : Core) (l : Lent) (still : List (List ℕ)) : Type 0 where
   pub leads : run (world c l) still ≡ run (world c₀ l₀) whole
   pub sizes : SameSizes l l₀

@@ -13,9 +13,9 @@ use Rattle.tape.specs.Record.{foundAt}
 use Rattle.tape.specs.declared.found.Why.{Why}
 use Rattle.tape.specs.declared.pass.Passed.{Passed}
 use Rattle.tape.specs.declared.pass.Passed.the-variants.{Past, Stopped}
-use Rattle.tape.specs.declared.pass.Way.{Way as PastWay}
+use Rattle.tape.specs.declared.pass.Way.{Way}
 use Rattle.tape.specs.Walk.{Trail, endOf, block, mark, stop, walk, trail, startOf, pastMarks, marksPast, recordsPast, wayPast}
-use Rattle.tape.specs.Laws.{off-tape, TrailBlock, TrailMark, TrailStop, TrailStart, Way, over-block, over-mark, at-stop, TrailWay, PassedWithin}
+use Rattle.tape.specs.Laws.{off-tape, TrailBlock, TrailMark, TrailStop, TrailStart, Walks, over-block, over-mark, at-stop, TrailWalks, PassedWithin}
 use Rattle.tape.proofs.Standing.{case-found, block-fits, mark-fits}
 
 walk-off : (t : List ℕ) (n h : ℕ) → length t < h → walk t n h ≡ stop h Bad
@@ -55,25 +55,25 @@ trail-start t h = go (foundAt t h) refl
     go Mark e = rw (trail-mark t h e)
     go (Stop w) e = rw (trail-stop t h w e)
 
-walk-way : (t : List ℕ) (n h : ℕ) → length t < n + h → Way t h (walk t n h)
+walk-way : (t : List ℕ) (n h : ℕ) → length t < n + h → Walks t h (walk t n h)
 unfolding walk
 walk-way t zero h l = at-stop (case-found t h (Stop Bad) (off-tape (omega arith)))
 walk-way t (suc n) h l = go (foundAt t h) refl (λ k p. walk-way t n k p)
   where
-    go : (f : Found) → foundAt t h ≡ f → ((k : ℕ) → length t < n + k → Way t k (walk t n k)) → Way t h (walk t (suc n) h)
+    go : (f : Found) → foundAt t h ≡ f → ((k : ℕ) → length t < n + k → Walks t k (walk t n k)) → Walks t h (walk t (suc n) h)
     go Block e ih = rw (e, walk) (over-block e (ih (h + 513) (omega arith)))
     go Mark e ih = rw (e, walk) (over-mark e (ih (h + 1) (omega arith)))
     go (Stop w) e ih = rw (e, walk) (at-stop e)
 
-pub trail-way : TrailWay
+pub trail-way : TrailWalks
 unfolding trail
 trail-way t h = walk-way t (suc (length t)) h (omega arith)
 
-way-within : (t : List ℕ) (h b : ℕ) {r : Trail} → Way t h r → length t ≤ b → h ≤ b → endOf (pastMarks 1 r) ≤ b
+way-within : (t : List ℕ) (h b : ℕ) {r : Trail} → Walks t h r → length t ≤ b → h ≤ b → endOf (pastMarks 1 r) ≤ b
 way-within t h b (over-block e w) l p = way-within t (h + 513) b w l (omega (arith, block-fits t h e))
 way-within t h b (over-mark e w) l p = rw (way-start t (h + 1) w) (omega (arith, mark-fits t h e))
   where
-    way-start : (t : List ℕ) (k : ℕ) {r : Trail} → Way t k r → startOf r ≡ k
+    way-start : (t : List ℕ) (k : ℕ) {r : Trail} → Walks t k r → startOf r ≡ k
     way-start t k (over-block e w) = refl
     way-start t k (over-mark e w) = refl
     way-start t k (at-stop e) = refl
@@ -120,7 +120,7 @@ module _ (t : List ℕ) (h : ℕ) where
   way-none = ap Past (trail-start t h)
 
 -- Where a way stands that began at h, with `left` of n marks still to pass and so many records behind it.
-pub record Stands (t : List ℕ) (h n at left records : ℕ) : Type 0 where
+pub record StandsAt (t : List ℕ) (h n at left records : ℕ) : Type 0 where
   pub far : records + h ≤ at
   pub few : left ≤ n
   pub ends : pastMarks left (trail t at) ≡ pastMarks n (trail t h)
@@ -128,11 +128,11 @@ pub record Stands (t : List ℕ) (h n at left records : ℕ) : Type 0 where
   pub counted : records + recordsPast left (trail t at) ≡ recordsPast n (trail t h)
 
 module _ (t : List ℕ) (h n : ℕ) where
-  pub stands-first : Stands t h n h n 0
+  pub stands-first : StandsAt t h n h n 0
   stands-first = record { far = omega arith; few = omega arith; ends = refl; marked = omega arith; counted = omega arith }
 
-  pub over-blocks : (at left records : ℕ) → Stands t h n at left records → 0 < left → foundAt t at ≡ Block
-      → Stands t h n (at + 513) left (records + 1)
+  pub over-blocks : (at left records : ℕ) → StandsAt t h n at left records → 0 < left → foundAt t at ≡ Block
+      → StandsAt t h n (at + 513) left (records + 1)
   over-blocks at left records s l e =
       let w = way-block t at left l e in
       record {
@@ -143,8 +143,8 @@ module _ (t : List ℕ) (h n : ℕ) where
         counted = omega (arith, w .counted, s .counted);
       }
 
-  pub over-marks : (at left records : ℕ) → Stands t h n at left records → 0 < left → foundAt t at ≡ Mark
-      → Stands t h n (at + 1) (left - 1) (records + 1)
+  pub over-marks : (at left records : ℕ) → StandsAt t h n at left records → 0 < left → foundAt t at ≡ Mark
+      → StandsAt t h n (at + 1) (left - 1) (records + 1)
   over-marks at left records s l e =
       let w = way-mark t at left l e in
       record {
@@ -155,10 +155,10 @@ module _ (t : List ℕ) (h n : ℕ) where
         counted = omega (arith, w .counted, s .counted);
       }
 
-  abbrev made : Passed → ℕ → ℕ → PastWay
+  abbrev made : Passed → ℕ → ℕ → Way
   made end marks records = record { end = end; marks = marks; records = records }
 
-  pub stopped-at : (at left records : ℕ) (w : Why) → Stands t h n at left records → 0 < left → foundAt t at ≡ Stop w
+  pub stopped-at : (at left records : ℕ) (w : Why) → StandsAt t h n at left records → 0 < left → foundAt t at ≡ Stop w
       → made (Stopped at w) (n - left) records ≡ wayPast t h n
   stopped-at at left records w s l e =
       let stop = way-stop t at left l w e in
@@ -167,7 +167,7 @@ module _ (t : List ℕ) (h n : ℕ) where
       let count : records ≡ recordsPast n (trail t h) = omega (arith, stop .1 .1, s .counted) in
       rw (end, marks, count) refl
 
-  pub past-all : (at left records : ℕ) → Stands t h n at left records → left ≤ 0 → made (Past at) n records ≡ wayPast t h n
+  pub past-all : (at left records : ℕ) → StandsAt t h n at left records → left ≤ 0 → made (Past at) n records ≡ wayPast t h n
   past-all at left records s l =
       let z : left ≡ 0 = omega (arith, l) in
       let end : Past at ≡ pastMarks n (trail t h) = sym (ap (λ (k : ℕ). pastMarks k (trail t at)) z ∙ way-none t at) ∙ s .ends in

@@ -76,13 +76,13 @@ abbrev pub TrailStart : Type 0
 TrailStart = (t : List ℕ) (h : ℕ) → startOf (trail t h) ≡ h
 
 -- The walk as a relation: what each offset on the way holds. Whoever goes by cases over a walk goes by these.
-pub data Way (t : List ℕ) : ℕ → Trail → Type 0 where
-  over-block : {h : ℕ} {r : Trail} → foundAt t h ≡ Block → Way t (h + blockSize) r → Way t h (block h r)
-  over-mark : {h : ℕ} {r : Trail} → foundAt t h ≡ Mark → Way t (h + markSize) r → Way t h (mark h r)
-  at-stop : {h : ℕ} {w : Why} → foundAt t h ≡ Stop w → Way t h (stop h w)
+pub data Walks (t : List ℕ) : ℕ → Trail → Type 0 where
+  over-block : {h : ℕ} {r : Trail} → foundAt t h ≡ Block → Walks t (h + blockSize) r → Walks t h (block h r)
+  over-mark : {h : ℕ} {r : Trail} → foundAt t h ≡ Mark → Walks t (h + markSize) r → Walks t h (mark h r)
+  at-stop : {h : ℕ} {w : Why} → foundAt t h ≡ Stop w → Walks t h (stop h w)
 
-abbrev pub TrailWay : Type 0
-TrailWay = (t : List ℕ) (h : ℕ) → Way t h (trail t h)
+abbrev pub TrailWalks : Type 0
+TrailWalks = (t : List ℕ) (h : ℕ) → Walks t h (trail t h)
 
 -- Passing ends on the tape, or where it began.
 abbrev pub PassedWithin : Type 0

@@ -5,12 +5,12 @@ use native.Mathlib.Omega.{arith}
 use lib.ListN.{length}
 use borrow.Author.Needs.{needs}
 use Rattle.tape.proofs.Standing.{block-fits, mark-fits}
-use Rattle.tape.proofs.Walking.{Stands, stands-first, over-blocks, over-marks, stopped-at, past-all}
+use Rattle.tape.proofs.Walking.{StandsAt, stands-first, over-blocks, over-marks, stopped-at, past-all}
 use Rattle.tape.proofs.pass.pass_marks.Statement.{statement}
 use Rattle.tape.proofs.pass.pass_marks.Tie as tie
 
 abbrev Inv-loop : tie.InvT-loop
-Inv-loop tape head marks at₀ left₀ records₀ at left records = Stands tape head marks at left records
+Inv-loop tape head marks at₀ left₀ records₀ at left records = StandsAt tape head marks at left records
 
 abbrev μ-loop : tie.MeasureT-loop
 μ-loop tape head marks at₀ left₀ records₀ at left records = length tape - at
