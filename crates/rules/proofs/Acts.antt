@@ -39,7 +39,7 @@ use Rattle.rules.specs.Online.{levelled, leftAlone, leaving, dropped}
 use Rattle.rules.specs.Step.{act}
 use Rattle.basis.proofs.Choosing.{both, not-not}
 use Rattle.rules.proofs.Sound.{SoundSeat}
-use Rattle.rules.proofs.Codes.{select-real, erase-code, status-code}
+use Rattle.rules.proofs.Codes.{select-real, erase-code, mark-code, status-code}
 
 -- What an order that passed the tests has shown.
 pub record Passes (s : Seat) (o : Order) : Type 0 where
@@ -54,8 +54,8 @@ pub data Does (g : List ℕ) (s : Seat) : Act → Acted → Type 0 where
   rewinds : (c : ℕ) → Does g s (Command c) (leaves false (resting s) (rewound (s .drive)) (s .tape))
   erases : Passes s Erase → Does g s (Command 34) (leaves false (resting s) (rewound (s .drive)) (erased (s .tape)))
   sets-writing : (c : ℕ) → Passes s Write → Does g s (Command c) (leaves false (resting s) (inMode Writing (s .drive)) (s .tape))
-  records-mark : (c : ℕ) → Passes s WriteMark
-      → Does g s (Command c) (leaves false (resting s) (inMode Idle (made (s .drive .head + 1) (s .drive))) (withMark (s .drive) (s .tape)))
+  records-mark : Passes s WriteMark
+      → Does g s (Command 96) (leaves false (resting s) (inMode Idle (made (s .drive .head + 1) (s .drive))) (withMark (s .drive) (s .tape)))
   sets-reading : (c : ℕ) → Passes s Read
       → Does g s (Command c) (leaves (checked (s .tape) (inMode Reading (s .drive)) .raised) (resting s)
       (checked (s .tape) (inMode Reading (s .drive)) .drive) (s .tape))
@@ -68,9 +68,9 @@ pub data Does (g : List ℕ) (s : Seat) : Act → Acted → Type 0 where
   -- a byte given
   stages : (b n : ℕ) → n + 1 ≤ 511 → s .drive .mode ≡ Writing
       → Does g s (Give b) (leaves false (atPhase (Taking (n + 1)) (s .port)) (s .drive) (s .tape))
-  records-block : (b : ℕ) → s .drive .mode ≡ Writing → s .drive .head + 1541 ≤ length (s .tape)
+  records-block : (b : ℕ) → s .port .phase ≡ Taking 511 → s .drive .mode ≡ Writing → s .drive .head + 1541 ≤ length (s .tape)
       → Does g s (Give b) (leaves false (resting s) (made (s .drive .head + 513) (s .drive)) (withBlock g (s .drive) (s .tape)))
-  records-last : (b : ℕ) → s .drive .mode ≡ Writing → s .drive .head + 1541 ≤ length (s .tape)
+  records-last : (b : ℕ) → s .port .phase ≡ Taking 511 → s .drive .mode ≡ Writing → s .drive .head + 1541 ≤ length (s .tape)
       → Does g s (Give b) (leaves true (resting s) (stopping Eom (made (s .drive .head + 513) (s .drive))) (withBlock g (s .drive) (s .tape)))
   drops-block : (b : ℕ) → Does g s (Give b) (leaves true (resting s) (stopping Eom (s .drive)) (s .tape))
   -- a byte taken
@@ -82,14 +82,15 @@ pub data Does (g : List ℕ) (s : Seat) : Act → Acted → Type 0 where
       → Does g s Take
       (hands (checked (s .tape) (passedTo (s .drive .head + 513) (s .drive)) .raised) (getD (s .tape) (s .drive .head + 512) 0) (resting s)
       (checked (s .tape) (passedTo (s .drive .head + 513) (s .drive)) .drive) (s .tape))
-  meets-edge : checked (s .tape) (s .drive) .raised ≡ true → Does g s Take (leaves true (resting s) (checked (s .tape) (s .drive) .drive) (s .tape))
-  finds-no-block : Does g s Take (leaves true (resting s) (stopping Ude (s .drive)) (s .tape))
+  meets-edge : s .port .phase ≡ Rest → checked (s .tape) (s .drive) .raised ≡ true
+      → Does g s Take (leaves true (resting s) (checked (s .tape) (s .drive) .drive) (s .tape))
+  finds-no-block : isBlock (foundAt (s .tape) (s .drive .head)) ≡ false → Does g s Take (leaves true (resting s) (stopping Ude (s .drive)) (s .tape))
   -- ONLINE
   goes-up : Does g s Online (leaves false (atLevel true (s .port)) (s .drive) (s .tape))
   goes-down : Does g s Offline (leaves false (atLevel false (s .port)) (s .drive) (s .tape))
   goes-idle : Does g s Offline (leaves false (atLevel false (s .port)) (inMode Idle (s .drive)) (s .tape))
   goes-home : Does g s Offline (leaves false (atLevel false (s .port)) (rewound (inMode Idle (s .drive))) (s .tape))
-  leaves-mark : s .drive .mode ≡ Writing → s .drive .head + 1 ≤ length (s .tape)
+  leaves-mark : s .port .online ≡ true → s .drive .exception ≡ false → s .drive .mode ≡ Writing → s .drive .head + 1 ≤ length (s .tape)
       → Does g s Offline (leaves false (atLevel false (s .port)) (rewound (inMode Idle (s .drive))) (withMark (s .drive) (s .tape)))
   has-no-room : Does g s Offline (leaves true (atLevel false (s .port)) (stopping Eom (s .drive)) (s .tape))
 
@@ -140,6 +141,15 @@ taking-writing (Taking n) d h = writing-is (d .mode) (both (isWriting (d .mode))
 taking-writing (Giving n) d h = cc
 taking-writing (Status k) d h = cc
 
+-- 511 bytes are before the last one of a block, and no more
+full-place : (ph : Phase) (m : Mode) → possiblePhase ph m ≡ true → 511 ≤ givenBefore ph → ph ≡ Taking 511
+unfolding possiblePhase
+full-place Rest m k h = absurd (omega (arith, h))
+full-place (Taking n) m k h =
+    let l = leb-true n 511 (both (leb n 511) (isWriting m) (both (leb 1 n) _ k .1) .0) in ap Taking (omega (arith, l, h))
+full-place (Giving n) m k h = absurd (omega (arith, h))
+full-place (Status n) m k h = absurd (omega (arith, h))
+
 module _ (g : List ℕ) (s : Seat) (ok : SoundSeat s) where
   ordered-does : (c : ℕ) (o : Order) → orderOf c ≡ o → Passes s o → Does g s (Command c) (ordered s o)
   ordered-does c NoOrder e p = nothing c
@@ -148,7 +158,7 @@ module _ (g : List ℕ) (s : Seat) (ok : SoundSeat s) where
   ordered-does c Erase e p = rw (erase-code c e) (erases p)
   ordered-does c Initialize e p = rewinds c
   ordered-does c Write e p = sets-writing c p
-  ordered-does c WriteMark e p = records-mark c p
+  ordered-does c WriteMark e p = rw (mark-code c e) (records-mark p)
   ordered-does c Read e p = sets-reading c p
   ordered-does c ReadMark e p = searches c
   ordered-does c ReadStatus e p = rw (status-code c e) reports
@@ -160,12 +170,12 @@ module _ (g : List ℕ) (s : Seat) (ok : SoundSeat s) where
   commanded-does c o e Plugged h = meets-plug c
   commanded-does c o e Full h = finds-no-room c
 
-  given-does : (b n : ℕ) → s .drive .mode ≡ Writing → Does g s (Give b) (byteGiven g s n)
+  given-does : (b n : ℕ) → (511 ≤ n → s .port .phase ≡ Taking 511) → s .drive .mode ≡ Writing → Does g s (Give b) (byteGiven g s n)
   unfolding stored afterBlock
-  given-does b n w =
+  given-does b n full w =
       by-test (ltb n 511) (λ h. stages b n (omega (arith, ltb-true n 511 h)) w)
-      (λ _. by-test (roomToWrite (s .drive) (s .tape))
-      (λ r. by-test _ (λ _. records-block b w (leb-true _ _ r)) (λ _. records-last b w (leb-true _ _ r)))
+      (λ h. by-test (roomToWrite (s .drive) (s .tape))
+      (λ r. let q = full (ltb-false n 511 h) in by-test _ (λ _. records-block b q w (leb-true _ _ r)) (λ _. records-last b q w (leb-true _ _ r)))
       (λ _. drops-block b))
 
   handed-does : (n : ℕ) → n ≤ 511 → (n ≡ 511 → s .port .phase ≡ Giving 511) → s .drive .mode ≡ Reading
@@ -180,31 +190,34 @@ module _ (g : List ℕ) (s : Seat) (ok : SoundSeat s) where
   unfolding octetTaken possiblePhase
   taken-does Rest e k h =
       let w = reading-is (s .drive .mode) (both (isReading (s .drive .mode)) (not (s .drive .exception)) h .0) in
-      by-test (checked (s .tape) (s .drive) .raised) (λ r. meets-edge r)
+      by-test (checked (s .tape) (s .drive) .raised) (λ r. meets-edge e r)
       (λ r. handed-does 0 (omega arith) (λ z. absurd (omega (arith, z))) w (unraised-block (s .tape) (s .drive) r))
   taken-does (Taking n) e k h = absurd (false≢true h)
   taken-does (Giving n) e k h =
       let p = both (leb n 511) (isReading (s .drive .mode)) (both (leb 1 n) _ k .1) in
       by-test (isBlock (foundAt (s .tape) (s .drive .head)))
       (λ r. handed-does n (leb-true n 511 (p .0)) (λ z. e ∙ ap Giving z) (reading-is (s .drive .mode) (p .1)) (block-is _ r))
-      (λ _. finds-no-block)
+      (λ r. finds-no-block r)
   taken-does (Status j) e k h = hands-octet j e
 
-  leaving-does : (m : Mode) → s .drive .mode ≡ m → Does g s Offline (leaving s m)
-  leaving-does Idle e = goes-home
-  leaving-does Writing e = by-test (leb (s .drive .head + 1) (length (s .tape))) (λ r. leaves-mark e (leb-true _ _ r)) (λ _. has-no-room)
-  leaving-does Reading e = goes-home
+  leaving-does : (m : Mode) → s .port .online ≡ true → s .drive .exception ≡ false → s .drive .mode ≡ m → Does g s Offline (leaving s m)
+  leaving-does Idle u x e = goes-home
+  leaving-does Writing u x e = by-test (leb (s .drive .head + 1) (length (s .tape))) (λ r. leaves-mark u x e (leb-true _ _ r)) (λ _. has-no-room)
+  leaving-does Reading u x e = goes-home
 
   dropped-does : Does g s Offline (dropped s)
   unfolding dropped
   dropped-does =
       by-test (s .port .online)
-      (λ _. by-test (s .drive .exception) (λ _. goes-idle) (λ _. by-test (s .drive .loaded) (λ _. leaving-does _ refl) (λ _. goes-down)))
+      (λ u. by-test (s .drive .exception) (λ _. goes-idle)
+      (λ x. by-test (s .drive .loaded) (λ _. leaving-does (s .drive .mode) u x refl) (λ _. goes-down)))
       (λ _. goes-down)
 
   pub act-does : (a : Act) → inStepAt (s .port .phase) (s .drive) a ≡ true → Does g s a (act g s a)
   act-does (Command c) h = commanded-does c (orderOf c) refl _ refl
-  act-does (Give b) h = given-does b (givenBefore (s .port .phase)) (taking-writing (s .port .phase) (s .drive) h)
+  act-does (Give b) h =
+      given-does b (givenBefore (s .port .phase)) (full-place (s .port .phase) (s .drive .mode) (ok .phase))
+      (taking-writing (s .port .phase) (s .drive) h)
   act-does Take h = taken-does (s .port .phase) refl (ok .phase) h
   act-does Online h = goes-up
   act-does Offline h = dropped-does

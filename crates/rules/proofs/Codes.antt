@@ -52,6 +52,9 @@ select-real c n e = leb-true n 3 (code-fits c (Select n) e)
 pub erase-code : (c : ℕ) → orderOf c ≡ Erase → c ≡ 34
 erase-code c e = eqb-true c 34 (code-fits c Erase e)
 
+pub mark-code : (c : ℕ) → orderOf c ≡ WriteMark → c ≡ 96
+mark-code c e = eqb-true c 96 (code-fits c WriteMark e)
+
 pub status-code : (c : ℕ) → orderOf c ≡ ReadStatus → c ≡ 192
 status-code c e = eqb-true c 192 (code-fits c ReadStatus e)
 

@@ -49,6 +49,7 @@ pub record Good (s : Seat) (m : Acted) : Type 0 where
   pub long : length (m .tape) ≡ length (s .tape)
   pub land : Landing (s .port .selected) (m .moved .port) (m .moved .drive .mode)
   pub plug : s .drive .protected ≡ true → m .tape ≡ s .tape
+  pub slot : s .drive .loaded ≡ false → m .tape ≡ s .tape
 
 -- ---- a drive's record stays possible
 
@@ -114,22 +115,32 @@ open-plug Idle l p h w q = let z : _≡_ {A = ℕ} 0 1 = cc in omega arith
 open-plug Writing l p h w q = true≢false (sym (both l (not p) h .1) ∙ ap not q)
 open-plug Reading l p h w q = let z : _≡_ {A = ℕ} 0 1 = cc in omega arith
 
+-- a drive that is Writing has a cartridge
+pub has-cartridge : (m : Mode) (l p : Bool) → modeFits m l p ≡ true → m ≡ Writing → l ≡ true
+has-cartridge Idle l p h w = cc
+has-cartridge Writing l p h w = both l (not p) h .0
+has-cartridge Reading l p h w = cc
+
 module _ (g : List ℕ) (w512 : length g ≡ 512) (s : Seat) (ok : SoundSeat s) where
+  writing-loaded : s .drive .mode ≡ Writing → s .drive .loaded ≡ true
+  writing-loaded w = has-cartridge (s .drive .mode) (s .drive .loaded) (s .drive .protected) (ok .fit .mode) w
+
   -- only the record changed, at Rest
   quiet : (m : Acted) → m .tape ≡ s .tape → m .moved .port .phase ≡ Rest → m .moved .port .selected ≡ s .port .selected → Fit (m .moved .drive)
       → Good s m
-  quiet m t p n f = record { fit = f; long = ap length t; land = rests p (rw n (ok .sel)); plug = λ _. t }
+  quiet m t p n f = record { fit = f; long = ap length t; land = rests p (rw n (ok .sel)); plug = λ _. t; slot = λ _. t }
 
-  mark-good : (m : Acted) → s .drive .protected ≡ false → s .drive .head + 1 ≤ length (s .tape)
+  mark-good : (m : Acted) → s .drive .loaded ≡ true → s .drive .protected ≡ false → s .drive .head + 1 ≤ length (s .tape)
       → m .tape ≡ recorded (s .tape) (s .drive .head) markRecord
       → m .moved .port .phase ≡ Rest → m .moved .port .selected ≡ s .port .selected → Fit (m .moved .drive) → Good s m
-  mark-good m o r t p n f =
+  mark-good m i o r t p n f =
       record {
         fit = f;
         long = ap length t
             ∙ recorded-length (s .tape) markRecord (s .drive .head) r;
         land = rests p (rw n (ok .sel));
         plug = λ q. absurd (true≢false (sym q ∙ o));
+        slot = λ q. absurd (true≢false (sym i ∙ q));
       }
 
   block-good : (m : Acted) → s .drive .mode ≡ Writing → s .drive .head + 1541 ≤ length (s .tape)
@@ -141,6 +152,7 @@ module _ (g : List ℕ) (w512 : length g ≡ 512) (s : Seat) (ok : SoundSeat s) 
         long = ap length t ∙ recorded-length (s .tape) (blockRecord g) (s .drive .head) (rw w512 (omega (arith, r)));
         land = rests p (rw n (ok .sel));
         plug = λ q. absurd (open-plug (s .drive .mode) (s .drive .loaded) (s .drive .protected) (ok .fit .mode) w q);
+        slot = λ q. absurd (true≢false (sym (writing-loaded w) ∙ q));
       }
 
   writing-open : s .drive .mode ≡ Writing → s .drive .protected ≡ false
@@ -156,15 +168,15 @@ module _ (g : List ℕ) (w512 : length g ≡ 512) (s : Seat) (ok : SoundSeat s) 
   pub does-good : (a : Act) (m : Acted) → Acts.Does g s a m → Good s m
   does-good a m (Acts.nothing c) = quiet m refl refl refl (ok .fit)
   does-good a m (Acts.selects c n l e) =
-      record { fit = record { near = ok .fit .near; mode = ok .fit .mode }; long = refl; land = rests refl l; plug = λ _. refl }
+      record { fit = record { near = ok .fit .near; mode = ok .fit .mode }; long = refl; land = rests refl l; plug = λ _. refl; slot = λ _. refl }
   does-good a m (Acts.rewinds c) = quiet m refl refl refl (fit-head (s .drive) 0 (ok .fit) zero-le)
   does-good a m (Acts.erases p) =
       record {
         fit = fit-head (s .drive) 0 (ok .fit) zero-le;
         long = length-replicate _ _;
         land = rests refl (ok .sel);
-        plug = λ q.
-            absurd (true≢false (sym q ∙ p .plug));
+        plug = λ q. absurd (true≢false (sym q ∙ p .plug));
+        slot = λ q. absurd (true≢false (sym (not-not (s .drive .loaded) (p .cartridge)) ∙ q));
       }
   does-good a m (Acts.sets-writing c p) =
       quiet m refl refl refl
@@ -173,9 +185,9 @@ module _ (g : List ℕ) (w512 : length g ≡ 512) (s : Seat) (ok : SoundSeat s) 
         mode = join (s .drive .loaded) (not (s .drive .protected)) (not-not (s .drive .loaded) (p .cartridge))
             (ap not (p .plug));
       })
-  does-good a m (Acts.records-mark c p) =
+  does-good a m (Acts.records-mark p) =
       let r : s .drive .head + 1 ≤ length (s .tape) = leb-true _ _ (p .room) in
-      mark-good m (p .plug) r refl refl refl
+      mark-good m (not-not (s .drive .loaded) (p .cartridge)) (p .plug) r refl refl refl
       (fit-idle (made (s .drive .head + 1) (s .drive)) (fit-head (s .drive) (s .drive .head + 1) (ok .fit) (omega (arith, ok .near))))
   does-good a m (Acts.sets-reading c p) =
       quiet m refl refl refl (checked-fit (s .tape) (inMode Reading (s .drive)) (ok .near)
@@ -188,31 +200,31 @@ module _ (g : List ℕ) (w512 : length g ≡ 512) (s : Seat) (ok : SoundSeat s) 
         fit = record { near = ok .fit .near; mode = ok .fit .mode };
         long = refl;
         land = stays refl (six-fit (s .drive .mode));
-        plug = λ _.
-            refl;
+        plug = λ _. refl;
+        slot = λ _. refl;
       }
   does-good a m (Acts.faults c b) = quiet m refl refl refl (record { near = ok .fit .near; mode = ok .fit .mode })
   does-good a m (Acts.meets-plug c) = quiet m refl refl refl (record { near = ok .fit .near; mode = ok .fit .mode })
   does-good a m (Acts.finds-no-room c) = quiet m refl refl refl (fit-stop Eom (s .drive) (ok .fit))
   does-good a m (Acts.drops-block b) = quiet m refl refl refl (fit-stop Eom (s .drive) (ok .fit))
-  does-good a m Acts.finds-no-block = quiet m refl refl refl (fit-stop Ude (s .drive) (ok .fit))
+  does-good a m (Acts.finds-no-block n) = quiet m refl refl refl (fit-stop Ude (s .drive) (ok .fit))
   does-good a m (Acts.stages b n l w) =
-      record { fit = ok .fit; long = refl; land = stays refl (taking-fits n (s .drive .mode) l w); plug = λ _. refl }
-  does-good a m (Acts.records-block b w r) = block-good m w r refl refl refl (fit-block r)
-  does-good a m (Acts.records-last b w r) = block-good m w r refl refl refl (fit-stop Eom (made (s .drive .head + 513) (s .drive)) (fit-block r))
+      record { fit = ok .fit; long = refl; land = stays refl (taking-fits n (s .drive .mode) l w); plug = λ _. refl; slot = λ _. refl }
+  does-good a m (Acts.records-block b q w r) = block-good m w r refl refl refl (fit-block r)
+  does-good a m (Acts.records-last b q w r) = block-good m w r refl refl refl (fit-stop Eom (made (s .drive .head + 513) (s .drive)) (fit-block r))
   does-good a m (Acts.hands-octet k e) =
-      record { fit = ok .fit; long = refl; land = octet-land k (s .port) (s .drive .mode) (ok .sel) (rw e at (ok .phase)); plug = λ _. refl }
+      record { fit = ok .fit; long = refl; land = octet-land k (s .port) (s .drive .mode) (ok .sel) (rw e at (ok .phase)); plug = λ _. refl; slot = λ _. refl }
   does-good a m (Acts.hands-byte n l w e) =
-      record { fit = ok .fit; long = refl; land = stays refl (giving-fits n (s .drive .mode) l w); plug = λ _. refl }
+      record { fit = ok .fit; long = refl; land = stays refl (giving-fits n (s .drive .mode) l w); plug = λ _. refl; slot = λ _. refl }
   does-good a m (Acts.hands-last q w e) =
       quiet m refl refl refl
       (checked-fit (s .tape) _ (ok .near)
       (fit-head (s .drive) (s .drive .head + 513) (ok .fit) (omega (arith, block-fits (s .tape) (s .drive .head) e, ok .near))))
-  does-good a m (Acts.meets-edge r) = quiet m refl refl refl (checked-fit (s .tape) (s .drive) (ok .near) (ok .fit))
+  does-good a m (Acts.meets-edge q r) = quiet m refl refl refl (checked-fit (s .tape) (s .drive) (ok .near) (ok .fit))
   does-good a m Acts.goes-up = quiet m refl refl refl (ok .fit)
   does-good a m Acts.goes-down = quiet m refl refl refl (ok .fit)
   does-good a m Acts.goes-idle = quiet m refl refl refl (fit-idle (s .drive) (ok .fit))
   does-good a m Acts.goes-home = quiet m refl refl refl (fit-head (inMode Idle (s .drive)) 0 (fit-idle (s .drive) (ok .fit)) zero-le)
-  does-good a m (Acts.leaves-mark w r) =
-      mark-good m (writing-open w) r refl refl refl (fit-head (inMode Idle (s .drive)) 0 (fit-idle (s .drive) (ok .fit)) zero-le)
+  does-good a m (Acts.leaves-mark u x w r) =
+      mark-good m (writing-loaded w) (writing-open w) r refl refl refl (fit-head (inMode Idle (s .drive)) 0 (fit-idle (s .drive) (ok .fit)) zero-le)
   does-good a m Acts.has-no-room = quiet m refl refl refl (fit-stop Eom (s .drive) (ok .fit))

@@ -1,4 +1,4 @@
--- Possible stays possible, tapes keep their lengths, and a protected tape stays as it was.
+-- Possible stays possible, tapes keep their lengths, and that of a protected or empty drive stays as it was.
 use Prim.Native.Nat.{ℕ, _≤_, zero-le}
 use mathlib.Core.Path.{_≡_, refl, sym, ap, subst, _∙_}
 use mathlib.Core.Bool.{Bool, true, false}
@@ -30,7 +30,7 @@ use Rattle.rules.specs.Effect.{Acted}
 use Rattle.rules.specs.Slot.{befallen, isOut, partDropped, phaseAfter}
 use Rattle.rules.specs.Step.{Stepped, act, stagedIn, seatOf, landed, effectOf, stepOf}
 use Rattle.rules.specs.Promises.Possible.{FreshIsPossible, StaysPossible, LengthsStay, StagingStaysWhole}
-use Rattle.rules.specs.Promises.Plug.{ProtectedKeeps}
+use Rattle.rules.specs.Promises.Plug.{ProtectedKeeps, EmptyKeeps}
 use Rattle.rules.proofs.Places.{four, put-same, put-other, put-holds, one-holds, all-hold, Got, same, other, got}
 use Rattle.rules.proofs.Sound.{Fit, Sound, idle-fits, sound-seat, sound-possible}
 use Rattle.rules.proofs.Codes.{named-real}
@@ -194,6 +194,10 @@ lengths-stay c l event i r w = tape-step (λ t t′. length t′ ≡ length t) (
 pub protected-keeps : ProtectedKeeps
 protected-keeps c l event i r w p =
     tape-step (λ t t′. t′ ≡ t) (λ _. refl) c l event i r w (λ m g e. g .plug (subst (λ (j : ℕ). driveAt c j .protected ≡ true) (sym e) p))
+
+pub empty-keeps : EmptyKeeps
+empty-keeps c l event i r w p =
+    tape-step (λ t t′. t′ ≡ t) (λ _. refl) c l event i r w (λ m g e. g .slot (subst (λ (j : ℕ). driveAt c j .loaded ≡ false) (sym e) p))
 
 pub staging-stays-whole : StagingStaysWhole
 staging-stays-whole c l event w =

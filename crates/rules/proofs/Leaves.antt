@@ -13,21 +13,21 @@ use Rattle.tape.specs.declared.found.Why.the-variants.{End, Unknown, Bad}
 use Rattle.tape.specs.declared.pass.Passed.{Passed}
 use Rattle.tape.specs.declared.pass.Passed.the-variants.{Past, Stopped}
 use Rattle.tape.specs.Record.{foundAt}
+use Rattle.tape.specs.Recording.{erased}
 use Rattle.tape.specs.Walk.{passed}
 use Rattle.rules.specs.declared.drive.Drive.{Drive}
 use Rattle.rules.specs.declared.drive.Latched.{Latched}
 use Rattle.rules.specs.declared.drive.Mode.the-variants.{Reading}
 use Rattle.rules.specs.declared.drive.Bit.{Bit}
 use Rattle.rules.specs.declared.drive.Bit.the-variants.{Cni, Eom, Ude, Fil, Ill, Ndt, Por}
-use Rattle.rules.specs.declared.phase.Phase.the-variants.{Giving}
+use Rattle.rules.specs.declared.phase.Phase.the-variants.{Rest, Taking, Giving}
 use Rattle.rules.specs.declared.event.Act.{Act}
-use Rattle.rules.specs.declared.event.Act.the-variants.{Command, Take}
-use Rattle.rules.specs.declared.event.Event.the-variants.{Own}
-use Rattle.rules.specs.Drive.{withBit, latching, stopping, inMode, made, passedTo}
+use Rattle.rules.specs.declared.event.Act.the-variants.{Command, Give, Take, Online, Offline}
+use Rattle.rules.specs.Drive.{withBit, latching, stopping, inMode, made, passedTo, writes}
+use Rattle.rules.specs.Phase.{atRest}
 use Rattle.rules.specs.Edge.{isBlock, halted, edged, checked, standing}
-use Rattle.rules.specs.Effect.{Seat, Acted}
+use Rattle.rules.specs.Effect.{Seat, Acted, withMark, withBlock}
 use Rattle.rules.specs.Promises.Status.{BitsStay, ReportStays}
-use Rattle.rules.specs.Promises.Plug.{Change, unchanged, erasedWhole, markMade, blockMade}
 use Rattle.rules.proofs.Acts
 
 -- ---- the edge check and the search
@@ -113,7 +113,32 @@ checked-report t d = edged-report (foundAt t (d .head)) d
 
 -- ---- each leaf
 
+abbrev isTake : Act → Bool
+isTake (Command c) = false
+isTake (Give b) = false
+isTake Take = true
+isTake Online = false
+isTake Offline = false
+
+rest-is-not-511 : Rest ≡ Giving 511 → ⊥
+rest-is-not-511 e = true≢false (ap atRest e)
+
 module _ (g : List ℕ) (s : Seat) where
+  -- The next byte is the last of a whole block.
+  pub record Last : Type 0 where
+    pub place : s .port .phase ≡ Giving 511
+    pub whole : foundAt (s .tape) (s .drive .head) ≡ Block
+
+  -- What an act does to the tape, and when.
+  pub data Changes (a : Act) (m : Acted) : List ℕ → Type 0 where
+    kept : Changes a m (s .tape)
+    erases : a ≡ Command 34 → m .moved .raised ≡ false → Changes a m (erased (s .tape))
+    marks : a ≡ Command 96 → m .moved .raised ≡ false → s .drive .head + 1 ≤ length (s .tape) → Changes a m (withMark (s .drive) (s .tape))
+    leaves-mark : a ≡ Offline → s .port .online ≡ true → writes (s .drive) ≡ true → m .moved .raised ≡ false
+        → s .drive .head + 1 ≤ length (s .tape) → Changes a m (withMark (s .drive) (s .tape))
+    blocks : (b : ℕ) → a ≡ Give b → s .port .phase ≡ Taking 511 → s .drive .head + 1541 ≤ length (s .tape)
+        → Changes a m (withBlock g (s .drive) (s .tape))
+
   pub record Leaf (a : Act) (m : Acted) : Type 0 where
     -- A drive whose EXCEPTION is up keeps it, but by READ STATUS.
     pub held : s .drive .exception ≡ true → (a ≡ Command 192 → ⊥) → m .moved .drive .exception ≡ true
@@ -122,12 +147,13 @@ module _ (g : List ℕ) (s : Seat) where
     pub quiet : m .moved .raised ≡ false → m .moved .drive .exception ≡ true → s .drive .exception ≡ true
     -- Latched bits and counts stay, but by READ STATUS.
     pub report : (a ≡ Command 192 → ⊥) → ReportStays (s .drive) (m .moved .drive)
-    -- What an act can do to the tape.
-    pub change : length g ≡ 512 → Change (Own a) (s .tape) (s .drive .head) (m .tape)
-    -- A byte comes with event 03, and with an exception only as byte 512.
+    pub change : Changes a m (m .tape)
+    -- A byte comes with event 03, and with an exception only as byte 512 of a whole block; and then it does come.
     pub absent : m .moved .given ≡ false → m .moved .byte ≡ 0
     pub taken : m .moved .given ≡ true → a ≡ Take
-    pub last : m .moved .given ≡ true → m .moved .raised ≡ true → s .port .phase ≡ Giving 511
+    pub last : m .moved .given ≡ true → m .moved .raised ≡ true → Last
+    pub comes : a ≡ Take → m .moved .raised ≡ false → m .moved .given ≡ true
+    pub last-comes : a ≡ Take → Last → m .moved .given ≡ true
 
   -- What a leaf leaves of EXCEPTION, bits and counts: all as it was, or EXCEPTION up with one bit more or none, or what a check or a search left.
   record Reported (m : Acted) : Type 0 where
@@ -166,10 +192,18 @@ module _ (g : List ℕ) (s : Seat) where
         report = rw q (report-then (s .drive) d _ l x n (checked-report (s .tape) d));
       }
 
+  -- no byte is handed out where one was asked for
+  record Mute (m : Acted) : Type 0 where
+    raised : m .moved .raised ≡ true
+    no-last : Last → ⊥
+
+  -- an act that asks for none
+  other : (a : Act) (m : Acted) → isTake a ≡ false → a ≡ Take → Mute m
+  other a m n e = absurd (true≢false (sym (ap isTake e) ∙ n))
+
   -- a leaf without a byte, with a byte that no exception follows, with byte 512
-  silent : (a : Act) (m : Acted) → Reported m → (length g ≡ 512 → Change (Own a) (s .tape) (s .drive .head) (m .tape)) → m .moved .given ≡ false
-      → m .moved .byte ≡ 0 → Leaf a m
-  silent a m r c n z =
+  silent : (a : Act) (m : Acted) → Reported m → Changes a m (m .tape) → m .moved .given ≡ false → m .moved .byte ≡ 0 → (a ≡ Take → Mute m) → Leaf a m
+  silent a m r c n z mute =
       record {
         held = λ u _. r .held u;
         raise = r .raise;
@@ -179,9 +213,11 @@ module _ (g : List ℕ) (s : Seat) where
         absent = λ _. z;
         taken = λ h. absurd (false≢true (sym n ∙ h));
         last = λ h _. absurd (false≢true (sym n ∙ h));
+        comes = λ e h. absurd (true≢false (sym (mute e .raised) ∙ h));
+        last-comes = λ e h. absurd (mute e .no-last h);
       }
 
-  handing : (m : Acted) → Reported m → m .tape ≡ s .tape → m .moved .given ≡ true → (m .moved .raised ≡ true → s .port .phase ≡ Giving 511)
+  handing : (m : Acted) → Reported m → m .tape ≡ s .tape → m .moved .given ≡ true → (m .moved .raised ≡ true → Last)
       → Leaf Take m
   handing m r t n z =
       record {
@@ -189,50 +225,57 @@ module _ (g : List ℕ) (s : Seat) where
         raise = r .raise;
         quiet = r .quiet;
         report = λ _. r .report;
-        change = λ _. rw t unchanged;
+        change = rw t kept;
         absent = λ h. absurd (true≢false (sym n ∙ h));
         taken = λ _. refl;
         last = λ _ h. z h;
+        comes = λ _ _. n;
+        last-comes = λ _ _. n;
       }
 
   pub does-leaf : (a : Act) (m : Acted) → Acts.Does g s a m → Leaf a m
-  does-leaf a m (Acts.nothing c) = silent a m (as-was m refl refl refl refl refl) (λ _. unchanged) refl refl
-  does-leaf a m (Acts.selects c k l e) = silent a m (as-was m refl refl refl refl refl) (λ _. unchanged) refl refl
-  does-leaf a m (Acts.rewinds c) = silent a m (as-was m refl refl refl refl refl) (λ _. unchanged) refl refl
-  does-leaf a m (Acts.erases p) = silent a m (as-was m refl refl refl refl refl) (λ _. erasedWhole refl) refl refl
-  does-leaf a m (Acts.sets-writing c p) = silent a m (as-was m refl refl refl refl refl) (λ _. unchanged) refl refl
-  does-leaf a m (Acts.records-mark c p) = silent a m (as-was m refl refl refl refl refl) (λ _. markMade (leb-true _ _ (p .room))) refl refl
-  does-leaf a m (Acts.sets-reading c p) = silent a m (edge m (inMode Reading (s .drive)) refl refl refl refl refl refl) (λ _. unchanged) refl refl
+  does-leaf a m (Acts.nothing c) = silent a m (as-was m refl refl refl refl refl) kept refl refl (other a m refl)
+  does-leaf a m (Acts.selects c k l e) = silent a m (as-was m refl refl refl refl refl) kept refl refl (other a m refl)
+  does-leaf a m (Acts.rewinds c) = silent a m (as-was m refl refl refl refl refl) kept refl refl (other a m refl)
+  does-leaf a m (Acts.erases p) = silent a m (as-was m refl refl refl refl refl) (erases refl refl) refl refl (other a m refl)
+  does-leaf a m (Acts.sets-writing c p) = silent a m (as-was m refl refl refl refl refl) kept refl refl (other a m refl)
+  does-leaf a m (Acts.records-mark p) = silent a m (as-was m refl refl refl refl refl) (marks refl refl (leb-true _ _ (p .room))) refl refl (other a m refl)
+  does-leaf a m (Acts.sets-reading c p) = silent a m (edge m (inMode Reading (s .drive)) refl refl refl refl refl refl) kept refl refl (other a m refl)
   does-leaf a m (Acts.searches c) =
       let r = passed (s .tape) (s .drive .head) in
-      silent a m (loud m refl (standing-up r (s .drive)) (standing-report r (s .drive))) (λ _. unchanged) refl refl
+      silent a m (loud m refl (standing-up r (s .drive)) (standing-report r (s .drive))) kept refl refl (other a m refl)
   does-leaf a m Acts.reports =
       record {
         held = λ _ n. absurd (n refl);
         raise = λ h. absurd (false≢true h);
         quiet = λ _ u. absurd (false≢true u);
         report = λ n. absurd (n refl);
-        change = λ _. unchanged;
+        change = kept;
         absent = λ _. refl;
         taken = λ h. absurd (false≢true h);
         last = λ h _. absurd (false≢true h);
+        comes = λ e _. absurd (true≢false (sym (ap isTake e)));
+        last-comes = λ e _. absurd (true≢false (sym (ap isTake e)));
       }
-  does-leaf a m (Acts.faults c b) = silent a m (one-bit m b refl refl refl refl refl) (λ _. unchanged) refl refl
-  does-leaf a m (Acts.meets-plug c) = silent a m (loud m refl refl (report-same (s .drive) _ refl refl refl)) (λ _. unchanged) refl refl
-  does-leaf a m (Acts.finds-no-room c) = silent a m (one-bit m Eom refl refl refl refl refl) (λ _. unchanged) refl refl
-  does-leaf a m (Acts.stages b k l w) = silent a m (as-was m refl refl refl refl refl) (λ _. unchanged) refl refl
-  does-leaf a m (Acts.records-block b w r) = silent a m (as-was m refl refl refl refl refl) (λ q. blockMade g q (omega (arith, r))) refl refl
-  does-leaf a m (Acts.records-last b w r) = silent a m (one-bit m Eom refl refl refl refl refl) (λ q. blockMade g q (omega (arith, r))) refl refl
-  does-leaf a m (Acts.drops-block b) = silent a m (one-bit m Eom refl refl refl refl refl) (λ _. unchanged) refl refl
+  does-leaf a m (Acts.faults c b) = silent a m (one-bit m b refl refl refl refl refl) kept refl refl (other a m refl)
+  does-leaf a m (Acts.meets-plug c) = silent a m (loud m refl refl (report-same (s .drive) _ refl refl refl)) kept refl refl (other a m refl)
+  does-leaf a m (Acts.finds-no-room c) = silent a m (one-bit m Eom refl refl refl refl refl) kept refl refl (other a m refl)
+  does-leaf a m (Acts.stages b k l w) = silent a m (as-was m refl refl refl refl refl) kept refl refl (other a m refl)
+  does-leaf a m (Acts.records-block b q w r) = silent a m (as-was m refl refl refl refl refl) (blocks b refl q r) refl refl (other a m refl)
+  does-leaf a m (Acts.records-last b q w r) = silent a m (one-bit m Eom refl refl refl refl refl) (blocks b refl q r) refl refl (other a m refl)
+  does-leaf a m (Acts.drops-block b) = silent a m (one-bit m Eom refl refl refl refl refl) kept refl refl (other a m refl)
   does-leaf a m (Acts.hands-octet k e) = handing m (as-was m refl refl refl refl refl) refl refl (λ h. absurd (false≢true h))
   does-leaf a m (Acts.hands-byte k l w e) = handing m (as-was m refl refl refl refl refl) refl refl (λ h. absurd (false≢true h))
   does-leaf a m (Acts.hands-last q w e) =
-      handing m (edge m (passedTo (s .drive .head + 513) (s .drive)) refl refl refl refl refl refl) refl refl (λ _. q)
-  does-leaf a m (Acts.meets-edge r) = silent a m (edge m (s .drive) refl refl refl refl (sym r) refl) (λ _. unchanged) refl refl
-  does-leaf a m Acts.finds-no-block = silent a m (one-bit m Ude refl refl refl refl refl) (λ _. unchanged) refl refl
-  does-leaf a m Acts.goes-up = silent a m (as-was m refl refl refl refl refl) (λ _. unchanged) refl refl
-  does-leaf a m Acts.goes-down = silent a m (as-was m refl refl refl refl refl) (λ _. unchanged) refl refl
-  does-leaf a m Acts.goes-idle = silent a m (as-was m refl refl refl refl refl) (λ _. unchanged) refl refl
-  does-leaf a m Acts.goes-home = silent a m (as-was m refl refl refl refl refl) (λ _. unchanged) refl refl
-  does-leaf a m (Acts.leaves-mark w r) = silent a m (as-was m refl refl refl refl refl) (λ _. markMade r) refl refl
-  does-leaf a m Acts.has-no-room = silent a m (one-bit m Eom refl refl refl refl refl) (λ _. unchanged) refl refl
+      handing m (edge m (passedTo (s .drive .head + 513) (s .drive)) refl refl refl refl refl refl) refl refl (λ _. record { place = q; whole = e })
+  does-leaf a m (Acts.meets-edge q r) = silent a m (edge m (s .drive) refl refl refl refl (sym r) refl) kept refl refl
+      (λ _. record { raised = refl; no-last = λ l. rest-is-not-511 (sym q ∙ l .place) })
+  does-leaf a m (Acts.finds-no-block n) =
+      silent a m (one-bit m Ude refl refl refl refl refl) kept refl refl
+      (λ _. record { raised = refl; no-last = λ l. true≢false (sym (ap isBlock (l .whole)) ∙ n) })
+  does-leaf a m Acts.goes-up = silent a m (as-was m refl refl refl refl refl) kept refl refl (other a m refl)
+  does-leaf a m Acts.goes-down = silent a m (as-was m refl refl refl refl refl) kept refl refl (other a m refl)
+  does-leaf a m Acts.goes-idle = silent a m (as-was m refl refl refl refl refl) kept refl refl (other a m refl)
+  does-leaf a m Acts.goes-home = silent a m (as-was m refl refl refl refl refl) kept refl refl (other a m refl)
+  does-leaf a m (Acts.leaves-mark u x w r) = silent a m (as-was m refl refl refl refl refl) (leaves-mark refl u (rw (w, x)) refl r) refl refl (other a m refl)
+  does-leaf a m Acts.has-no-room = silent a m (one-bit m Eom refl refl refl refl refl) kept refl refl (other a m refl)

@@ -13,6 +13,7 @@ pub mod Table
 pub mod Illegal
 pub mod Status
 pub mod Plug
+pub mod Changes
 pub mod Outcomes
 pub mod Runs
 pub mod Wrong
@@ -24,3 +25,10 @@ pub mod SimHere
 pub mod Sim
 pub mod Demand3
 pub mod Ran
+pub mod Seated
+pub mod Giving
+pub mod Handing
+pub mod Ways
+pub mod Strike
+pub mod Returns
+pub mod Among

@@ -99,7 +99,7 @@ one-holds P {a} {b} {c} {d} pa pb pc pd j = go (eqb j 0) (eqb j 1) (eqb j 2)
     go false false true = pc
     go false false false = pd
 
-choice-holds : {A : Type 0} (P : A → Type 0) (t : Bool) {x y : A} → P x → P y → P (pick t x y)
+pub choice-holds : {A : Type 0} (P : A → Type 0) (t : Bool) {x y : A} → P x → P y → P (pick t x y)
 unfolding pick
 choice-holds P true px py = px
 choice-holds P false px py = py

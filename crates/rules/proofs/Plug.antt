@@ -23,7 +23,7 @@ use Rattle.rules.specs.Event.{eventOf}
 use Rattle.rules.specs.Refusal.{refusalIn}
 use Rattle.rules.specs.Slot.{befallen}
 use Rattle.rules.specs.Step.{Stepped, act, stagedIn, seatOf, effectOf, stepOf}
-use Rattle.rules.specs.Promises.Plug.{meansDrive, actsOnNoTape, OtherTapesStay, OtherDrivesStay, OnlyActsChangeTapes, Change, unchanged, erasedWhole, markMade, blockMade, OneChange, RecordingCutsOff, BeforeTheHead}
+use Rattle.rules.specs.Promises.Plug.{meansDrive, actsOnNoTape, OtherTapesStay, OtherDrivesStay, OnlyActsChangeTapes}
 use Rattle.rules.proofs.Places.{Got, same, other, put-same}
 use Rattle.rules.proofs.Sound.{Sound}
 use Rattle.rules.proofs.Codes.{named-real}
@@ -69,33 +69,3 @@ only-acts-change-tapes c l event =
     go Reset n = refl
     go (Named j x) n = refl
     go (Own a) n = absurd (false≢true n)
-
--- ---- what an event can do to the selected drive's tape
-
-pub one-change : OneChange
-one-change c l event w =
-    sound-step (λ s. Change (eventOf event) (tapeAt l (c .port .selected)) (driveAt c (c .port .selected) .head)
-    (tapeAt (s .lent) (c .port .selected))) c l event w (λ _. unchanged) (go (eventOf event))
-  where
-    go : (e : Event) → Sound c l → refusalIn c e ≡ Taken → Change e (tapeAt l (c .port .selected)) (driveAt c (c .port .selected) .head)
-        (tapeAt (effectOf c l e .lent) (c .port .selected))
-    go NoEvent k h = unchanged
-    go Reset k h = unchanged
-    go (Named j x) k h = unchanged
-    go (Own a) k h =
-        rw put-same (Leaves.does-leaf (stagedIn c a l .staging) (seatOf c l) a _ (own-does c l a k h) .change (staged-sound c l a k .whole))
-
-block-room : (t g : List ℕ) (h : ℕ) → length g ≡ 512 → h + 513 ≤ length t → h + length (blockRecord g) ≤ length t
-block-room t g h e r = rw e (omega (arith, r))
-
-pub recording-cuts-off : RecordingCutsOff
-recording-cuts-off = (λ t h r. recording-keeps t markRecord h r, λ t g h e r. recording-keeps t (blockRecord g) h (block-room t g h e r))
-
-before-change : (e : Event) (t : List ℕ) (h : ℕ) (t′ : List ℕ) → Change e t h t′ → (e ≡ Own (Command 34) → ⊥) → take h t′ ≡ take h t
-before-change e t h t′ unchanged n = refl
-before-change e t h t′ (erasedWhole q) n = absurd (n q)
-before-change e t h t′ (markMade r) n = recorded-before t markRecord h r
-before-change e t h t′ (blockMade g q r) n = recorded-before t (blockRecord g) h (block-room t g h q r)
-
-pub before-the-head : BeforeTheHead
-before-the-head c l event w n = before-change (eventOf event) _ _ _ (one-change c l event w) n

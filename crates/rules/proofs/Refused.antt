@@ -18,10 +18,10 @@ use Rattle.rules.specs.Answer.{rowOf}
 use Rattle.rules.specs.Refusal.{refusalIn}
 use Rattle.rules.specs.Lines.{linesOf, linesDown}
 use Rattle.rules.specs.Step.{Stepped, act, stagedIn, seatOf, done, refused, effectOf, stepOf}
-use Rattle.rules.specs.Promises.Refused.{AsFound, RefusedKeeps, LinesDownAfter5, LinesOfTheRecord, ByteRules, BytesOnlyTaken}
+use Rattle.rules.specs.Promises.Refused.{AsFound, RefusedKeeps, LinesDownAfter5, LinesOfTheRecord, ByteRules, BytesExactly}
 use Rattle.rules.proofs.Sound.{Sound}
 use Rattle.rules.proofs.Leaves
-use Rattle.rules.proofs.StepBy.{step-by, sound-step, own-does}
+use Rattle.rules.proofs.StepBy.{step-by, step-sound, own-does}
 
 -- what is taken is answered 0 or 1, and so refuses nothing
 pub taken-not-refused : (b : Bool) → rowOf (pick b Raised Taken) .refuses ≡ false
@@ -79,28 +79,63 @@ lines-of-the-record c l event =
 
 -- ---- the byte
 
-record Byte (c : Core) (e : Event) (s : Stepped) : Type 0 where
-  absent : s .turn .given ≡ false → s .turn .byte ≡ 0
-  taken : s .turn .given ≡ true → e ≡ Own Take
-  last : s .turn .given ≡ true → s .turn .answer ≡ Raised → c .port .phase ≡ Giving 511
-
-no-byte : (c : Core) (e : Event) (s : Stepped) → s .turn .given ≡ false → s .turn .byte ≡ 0 → Byte c e s
-no-byte c e s n z = record { absent = λ _. z; taken = λ h. absurd (false≢true (sym n ∙ h)); last = λ h _. absurd (false≢true (sym n ∙ h)) }
+no-byte : (c : Core) (l : Lent) (event : List ℕ) (s : Stepped) → s .turn .given ≡ false → s .turn .byte ≡ 0
+    → (eventOf event ≡ Own Take → rowOf (s .turn .answer) .refuses ≡ true) → ByteRules c l event s
+no-byte c l event s n z r =
+    record {
+      absent = λ _. z;
+      row = λ h. absurd (false≢true (sym n ∙ h));
+      taken = λ h. absurd (false≢true (sym n ∙ h));
+      last = λ h _. absurd (false≢true (sym n ∙ h));
+      comes = λ e h. absurd (false≢true (sym (ap (λ (a : Answer). rowOf a .refuses) h) ∙ r e));
+      last-comes = λ e h _. absurd (false≢true (sym h ∙ r e));
+    }
 
 raised-is : (b : Bool) → pick b Raised Taken ≡ Raised → b ≡ true
 unfolding pick
 raised-is true h = refl
 raised-is false h = cc
 
-effect-byte : (c : Core) (l : Lent) (e : Event) → Sound c l → refusalIn c e ≡ Taken → Byte c e (effectOf c l e)
-effect-byte c l NoEvent k h = no-byte c _ _ refl refl
-effect-byte c l Reset k h = no-byte c _ _ refl refl
-effect-byte c l (Named i w) k h = no-byte c _ _ refl refl
-effect-byte c l (Own a) k h =
-    let b = Leaves.does-leaf (stagedIn c a l .staging) (seatOf c l) a _ (own-does c l a k h) in
-    record { absent = λ n. b .absent n; taken = λ g. ap Own (b .taken g); last = λ g r. b .last g (raised-is _ r) }
+pub quiet-is : (b : Bool) → pick b Raised Taken ≡ Taken → b ≡ false
+unfolding pick
+quiet-is true h = cc
+quiet-is false h = refl
 
-pub bytes-only-taken : BytesOnlyTaken
-bytes-only-taken c l event w =
-    let b = sound-step (Byte c (eventOf event)) c l event w (λ a. no-byte c _ _ refl refl) (effect-byte c l (eventOf event)) in
-    record { absent = b .absent; taken = b .taken; last = b .last }
+may-give : (b : Bool) → rowOf (pick b Raised Taken) .mayGive ≡ true
+unfolding pick
+may-give true = refl
+may-give false = refl
+
+abbrev pub isOwn : Event → Bool
+isOwn NoEvent = false
+isOwn Reset = false
+isOwn (Named i w) = false
+isOwn (Own a) = true
+
+-- an event that is no act of the host is none
+pub not-own : (event : List ℕ) (e : Event) → eventOf event ≡ e → isOwn e ≡ false → {A : Type 0} {a : Act} → eventOf event ≡ Own a → A
+not-own event e q n h = absurd (false≢true (sym n ∙ ap isOwn (sym q ∙ h)))
+
+pub own-is : (a b : Act) → Own a ≡ Own b → a ≡ b
+own-is a b e = cc
+
+effect-byte : (c : Core) (l : Lent) (event : List ℕ) (e : Event) → eventOf event ≡ e → Sound c l → refusalIn c e ≡ Taken
+    → ByteRules c l event (effectOf c l e)
+effect-byte c l event NoEvent q k h = no-byte c l event _ refl refl (not-own event NoEvent q refl)
+effect-byte c l event Reset q k h = no-byte c l event _ refl refl (not-own event Reset q refl)
+effect-byte c l event (Named i w) q k h = no-byte c l event _ refl refl (not-own event (Named i w) q refl)
+effect-byte c l event (Own a) q k h =
+    let b = Leaves.does-leaf (stagedIn c a l .staging) (seatOf c l) a _ (own-does c l a k h) in
+    let take : eventOf event ≡ Own Take → a ≡ Take = λ e. own-is a Take (sym q ∙ e) in
+    record {
+      absent = b .absent;
+      row = λ _. may-give _;
+      taken = λ g. q ∙ ap Own (b .taken g);
+      last = λ g r. let f = b .last g (raised-is _ r) in record { place = f .place; whole = f .whole };
+      comes = λ e r. b .comes (take e) (quiet-is _ r);
+      last-comes = λ e _ f. b .last-comes (take e) (record { place = f .place; whole = f .whole });
+    }
+
+pub bytes-exactly : BytesExactly
+bytes-exactly c l event w =
+    step-sound (ByteRules c l event) c l event w (λ a r. no-byte c l event _ refl refl (λ _. r)) (effect-byte c l event (eventOf event) refl)

@@ -158,7 +158,7 @@ idle-keeps : (g : List ℕ) (s : Seat) (m : Acted) → Acts.Does g s Offline m �
 idle-keeps g s m Acts.goes-down i = refl
 idle-keeps g s m Acts.goes-idle i = refl
 idle-keeps g s m Acts.goes-home i = refl
-idle-keeps g s m (Acts.leaves-mark w r) i = cc
+idle-keeps g s m (Acts.leaves-mark u x w r) i = cc
 idle-keeps g s m Acts.has-no-room i = refl
 
 idle-drop : (c : Core) (l : Lent) (event : List ℕ) → Whole l → eventOf event ≡ Own Offline → driveAt c (c .port .selected) .mode ≡ Idle

@@ -5,8 +5,10 @@ pub mod Orders
 pub mod Status
 pub mod Possible
 pub mod Plug
+pub mod Changes
 pub mod Runs
 pub mod Wrong
 pub mod Outcomes
 pub mod Demand3
 pub mod Samples
+pub mod Strike

@@ -32,6 +32,14 @@ abbrev pub turns : World → List (List ℕ) → List Turn
 turns w [] = []
 turns w (e ∷ es) = turnOf w e ∷ turns (after w e) es
 
+-- Bytes given one after the other, event 02 for each; and so many taken, event 03 for each.
+abbrev pub givenEach : List ℕ → List (List ℕ)
+givenEach [] = []
+givenEach (b ∷ bs) = (2 ∷ b ∷ []) ∷ givenEach bs
+
+abbrev pub takenTimes : ℕ → List (List ℕ)
+takenTimes n = replicate n (3 ∷ [])
+
 -- A fresh unit with the tapes of its four drives.
 abbrev pub freshWorld : List ℕ → List ℕ → List ℕ → List ℕ → World
 freshWorld a b c d = world freshCore (lent (replicate bodySize 0) a b c d)

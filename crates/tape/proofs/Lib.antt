@@ -2,4 +2,5 @@ pub mod Standing
 pub mod Walking
 pub mod Recorded
 pub mod Answers
+pub mod Holding
 mod Parts

@@ -41,7 +41,7 @@ module _ (t rec : List ℕ) (h : ℕ) (fits : h + length rec ≤ length t) where
   recorded-before = take-at (take h t) (putIn rec (drop h t)) h head-length
 
   -- the record, and what comes after it
-  recorded-from : drop h (recorded t h rec) ≡ rec ++ ended (drop (h + length rec) t)
+  pub recorded-from : drop h (recorded t h rec) ≡ rec ++ ended (drop (h + length rec) t)
   unfolding recorded
   recorded-from = drop-at (take h t) (putIn rec (drop h t)) h head-length ∙ ap (λ (l : List ℕ). rec ++ ended l) (drop-drop (length rec) h t)
 

@@ -1,6 +1,5 @@
 pub mod Own
 pub mod Within
 pub mod Turn
-pub mod Feed
 pub mod Demands
 pub mod Outcomes

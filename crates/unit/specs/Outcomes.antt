@@ -9,7 +9,7 @@ use Rattle.rules.specs.Step.{Steps}
 use Rattle.rules.specs.Run.{World, world, run}
 use Rattle.rules.specs.Promises.Outcomes.{StepsOnce}
 use Rattle.unit.specs.Turn.{turnOfOutcome}
-use Rattle.unit.specs.Feed.{givenEach}
+use Rattle.rules.specs.Run.{givenEach}
 
 -- The four tapes.
 abbrev pub SameTapes : Lent → Lent → Type 0

@@ -2,7 +2,7 @@
 ghost use mathlib.Core.Path.{_≡_};
 ghost use Rattle.rules.specs.Unit.{lent};
 ghost use Rattle.rules.specs.Ran.{RunsTo};
-ghost use Rattle.unit.specs.Feed.{givenEach};
+ghost use Rattle.rules.specs.Run.{givenEach};
 use crate::steps::step_core;
 use answers::GIVEN;
 use rules::Core;

@@ -3,12 +3,14 @@ use Prim.Native.Nat.{ℕ}
 use mathlib.Core.Path.{_≡_}
 use mathlib.Core.Bool.{true, false}
 use mathlib.Core.List.{List}
+use Rattle.tape.specs.declared.found.Found.the-variants.{Block}
+use Rattle.tape.specs.Record.{foundAt}
 use Rattle.rules.specs.declared.unit.Core.{Core}
 use Rattle.rules.specs.declared.phase.Phase.the-variants.{Giving}
 use Rattle.rules.specs.declared.event.Act.the-variants.{Take}
 use Rattle.rules.specs.declared.event.Event.the-variants.{Own}
-use Rattle.rules.specs.declared.answer.Answer.the-variants.{Raised, Impossible}
-use Rattle.rules.specs.Unit.{Lent, Whole}
+use Rattle.rules.specs.declared.answer.Answer.the-variants.{Taken, Raised, Impossible}
+use Rattle.rules.specs.Unit.{Lent, Whole, driveAt, tapeAt}
 use Rattle.rules.specs.Event.{eventOf}
 use Rattle.rules.specs.Answer.{rowOf}
 use Rattle.rules.specs.Lines.{linesOf, linesDown}
@@ -33,11 +35,19 @@ LinesOfTheRecord =
     (c : Core) (l : Lent) (event : List ℕ) → (answerTo c l event ≡ Impossible → ⊥)
     → stepOf c l event .turn .lines ≡ linesOf (stepOf c l event .turn .core)
 
--- A byte comes with event 03 alone; with answer 1 only as byte 512 of a block. Where none comes it is 0.
-pub record ByteRules (c : Core) (l : Lent) (event : List ℕ) : Type 0 where
-  pub absent : stepOf c l event .turn .given ≡ false → stepOf c l event .turn .byte ≡ 0
-  pub taken : stepOf c l event .turn .given ≡ true → eventOf event ≡ Own Take
-  pub last : stepOf c l event .turn .given ≡ true → answerTo c l event ≡ Raised → c .port .phase ≡ Giving 511
+-- The byte: where none comes it is 0, and it comes only with an answer that may give one. It comes with event 03 answered 0,
+-- and with answer 1 as byte 512 of a whole block; and so it does not come otherwise.
+pub record LastOfBlock (c : Core) (l : Lent) : Type 0 where
+  pub place : c .port .phase ≡ Giving 511
+  pub whole : foundAt (tapeAt l (c .port .selected)) (driveAt c (c .port .selected) .head) ≡ Block
 
-abbrev pub BytesOnlyTaken : Type 0
-BytesOnlyTaken = (c : Core) (l : Lent) (event : List ℕ) → Whole l → ByteRules c l event
+pub record ByteRules (c : Core) (l : Lent) (event : List ℕ) (s : Stepped) : Type 0 where
+  pub absent : s .turn .given ≡ false → s .turn .byte ≡ 0
+  pub row : s .turn .given ≡ true → rowOf (s .turn .answer) .mayGive ≡ true
+  pub taken : s .turn .given ≡ true → eventOf event ≡ Own Take
+  pub last : s .turn .given ≡ true → s .turn .answer ≡ Raised → LastOfBlock c l
+  pub comes : eventOf event ≡ Own Take → s .turn .answer ≡ Taken → s .turn .given ≡ true
+  pub last-comes : eventOf event ≡ Own Take → rowOf (s .turn .answer) .refuses ≡ false → LastOfBlock c l → s .turn .given ≡ true
+
+abbrev pub BytesExactly : Type 0
+BytesExactly = (c : Core) (l : Lent) (event : List ℕ) → Whole l → ByteRules c l event (stepOf c l event)

@@ -7,7 +7,7 @@ use borrow.Author.Needs.{needs}
 use Rattle.rules.specs.Unit.{lent}
 use Rattle.rules.specs.Ran.{UnderWay}
 use Rattle.rules.proofs.Ran.{loop-laws}
-use Rattle.unit.specs.Feed.{givenEach}
+use Rattle.rules.specs.Run.{givenEach}
 use Rattle.unit.proofs.Bytes.{byte-then-rest}
 use Rattle.unit.proofs.feed.give_bytes.Statement.{statement}
 use Rattle.unit.proofs.feed.give_bytes.Tie as tie

@@ -1,0 +1,184 @@
+-- The way back to where a strike began, and the whole of it: given, recorded, found again, handed out.
+use Prim.Native.Nat.{ℕ, zero, suc, _+_, _≤_}
+use mathlib.Core.Path.{_≡_, refl, sym, ap, subst, _∙_}
+use mathlib.Core.Bool.{Bool, true, false}
+use mathlib.Core.List.{List, [], _∷_, _++_}
+use native.Mathlib.Omega.{arith}
+use lib.ListN.{length, replicate}
+use Rattle.basis.specs.Choice.{pick}
+use Rattle.tape.specs.declared.pass.Passed.{Passed}
+use Rattle.tape.specs.declared.pass.Passed.the-variants.{Past}
+use Rattle.tape.specs.Walk.{trail, startOf, pastMarks}
+use Rattle.tape.specs.Recording.{recorded}
+use Rattle.tape.specs.Held.{Holds}
+use Rattle.tape.proofs.Walking.{trail-start}
+use Rattle.tape.proofs.Recorded.{recorded-length, recorded-before}
+use Rattle.tape.proofs.Holding.{recorded-holds, past-same, past-next}
+use Rattle.rules.specs.declared.drive.Drive.{Drive}
+use Rattle.rules.specs.declared.drive.Mode.the-variants.{Idle}
+use Rattle.rules.specs.declared.drive.Bit.the-variants.{Fil}
+use Rattle.rules.specs.declared.unit.Port.{Port}
+use Rattle.rules.specs.declared.phase.Phase.the-variants.{Rest, Status}
+use Rattle.rules.specs.Drive.{setHead, inMode, rewound, stopping, passedTo, cleared}
+use Rattle.rules.specs.Unit.{atPhase, atLevel, showing}
+use Rattle.rules.specs.Octets.{octetsOf}
+use Rattle.rules.specs.Effect.{Seat, seat}
+use Rattle.rules.specs.Run.{World, after, run, turns}
+use Rattle.rules.specs.Promises.Runs.{command, report, online, offline}
+use Rattle.rules.specs.Promises.Strike.{driveOf, tapeOf, Ready, MayRecord, AllWhole, strike, recording, reading, Back, by-order, by-line, passing, Arrives, WayBack, StrikeComesBack}
+use Rattle.rules.proofs.Ran.{run-append}
+use Rattle.rules.proofs.Seated.{Sits, sits-works}
+use Rattle.rules.proofs.Ways.{Fit, bot-moves, pass-moves, status-moves, fall-moves, rise-moves, octet-next}
+use Rattle.rules.proofs.Strike.{here-at-rest, ready-fit, strike-fits, strike-recorded, strike-handed-out}
+
+-- The drive n is selected and takes tape orders, with its head at h and its tape t.
+record Stands (w : World) (n h : ℕ) (t : List ℕ) : Type 0 where
+  staging : List ℕ
+  port : Port
+  drive : Drive
+  sits : Sits w staging (seat (atPhase Rest port) drive t)
+  fit : Fit port drive Idle
+  same : port .selected ≡ n
+  at : drive .head ≡ h
+
+-- ---- the way to the beginning
+
+stands-here : (w : World) → Ready w → Stands w (w .core .port .selected) (driveOf w .head) (tapeOf w)
+stands-here w r =
+    record {
+      staging = w .lent .staging;
+      port = w .core .port;
+      drive = driveOf w;
+      sits = here-at-rest w (r .works) (r .rest);
+      fit = ready-fit w r;
+      same = refl;
+      at = refl;
+    }
+
+goes-back : (w : World) (n h : ℕ) (t : List ℕ) (back : List (List ℕ)) → Back back → Stands w n h t → Stands (run w back) n 0 t
+goes-back w n h t back by-order s =
+    let f = s .fit in
+    record {
+      staging = s .staging;
+      port = s .port;
+      drive = rewound (s .drive);
+      sits = bot-moves (s .port) (s .drive) t w (s .staging) (s .sits) f .next;
+      fit = record { online = f .online; loaded = f .loaded; calm = f .calm; mode = f .mode };
+      same = s .same;
+      at = refl;
+    }
+goes-back w n h t back by-line s =
+    let f = s .fit in
+    let down = fall-moves (s .port) (s .drive) t w (s .staging) (s .sits) f in
+    let home = rewound (inMode Idle (s .drive)) in
+    record {
+      staging = s .staging;
+      port = atLevel true (s .port);
+      drive = home;
+      sits = rise-moves (atLevel false (s .port)) home t (after w (5 ∷ [])) (s .staging) (down .next) .next;
+      fit = record { online = refl; loaded = f .loaded; calm = f .calm; mode = refl };
+      same = s .same;
+      at = refl;
+    }
+
+-- ---- past a mark, with the report that FIL asks for
+
+six-octets : (p : Port) (d : Drive) (t : List ℕ) (w : World) (g : List ℕ) → Sits w g (seat (atPhase (Status 6) p) d t)
+    → Sits (run w (replicate 6 (3 ∷ []))) g (seat (atPhase Rest p) d t)
+unfolding pick
+six-octets p d t w g k =
+    let w1 = after w (3 ∷ []) in
+    let w2 = after w1 (3 ∷ []) in
+    let w3 = after w2 (3 ∷ []) in
+    let w4 = after w3 (3 ∷ []) in
+    let w5 = after w4 (3 ∷ []) in
+    octet-next p d t w5 g 1 (octet-next p d t w4 g 2 (octet-next p d t w3 g 3 (octet-next p d t w2 g 4 (octet-next p d t w1 g 5
+    (octet-next p d t w g 6 k)))))
+
+passes-one : (w : World) (n h m : ℕ) (t : List ℕ) → pastMarks 1 (trail t h) ≡ Past m → Stands w n h t
+    → Stands (run w (command 160 ++ report)) n m t
+passes-one w n h m t e s =
+    let f = s .fit in
+    let past = stopping Fil (passedTo m (s .drive)) in
+    let there = ap (λ (x : ℕ). pastMarks 1 (trail t x)) (s .at) ∙ e in
+    let found = pass-moves (s .port) (s .drive) t w (s .staging) m (s .sits) f there in
+    let told = status-moves (s .port) past t (after w (1 ∷ 160 ∷ [])) (s .staging) (found .next) in
+    let shown = showing (octetsOf past) (s .port) in
+    record {
+      staging = s .staging;
+      port = shown;
+      drive = cleared past;
+      sits = six-octets shown (cleared past) t (after (after w (1 ∷ 160 ∷ [])) (1 ∷ 192 ∷ [])) (s .staging) (told .next);
+      fit = record { online = f .online; loaded = f .loaded; calm = refl; mode = refl };
+      same = s .same;
+      at = refl;
+    }
+
+passes : (k : ℕ) (w : World) (n h m : ℕ) (t : List ℕ) → pastMarks k (trail t h) ≡ Past m → Stands w n h t → Stands (run w (passing k)) n m t
+passes zero w n h m t e s = let q : startOf (trail t h) ≡ m = cc in subst (λ (x : ℕ). Stands w n x t) (sym (trail-start t h) ∙ q) s
+passes (suc k) w n h m t e s =
+    let on = past-next t h k m e in
+    passes k (run w (command 160 ++ report)) n (on .mark) m t (on .others) (passes-one w n h (on .mark) t (on .first) s)
+
+arrives : (w w′ : World) (h : ℕ) → Stands w′ (w .core .port .selected) h (tapeOf w) → Arrives w w′ h
+arrives w w′ h s =
+    let seen = s .sits .seat in
+    let f = s .fit in
+    let drive = ap (λ (x : Seat). x .drive) seen in
+    record {
+      ready =
+          record {
+            works = sits-works (s .sits);
+            rest = ap (λ (x : Seat). x .port .phase) seen;
+            online = ap (λ (x : Seat). x .port .online) seen ∙ f .online;
+            loaded = ap (λ (x : Drive). x .loaded) drive ∙ f .loaded;
+            idle = ap (λ (x : Drive). x .mode) drive ∙ f .mode;
+            calm = ap (λ (x : Drive). x .exception) drive ∙ f .calm;
+          };
+      selected = ap (λ (x : Seat). x .port .selected) seen ∙ s .same;
+      head = ap (λ (x : Drive). x .head) drive ∙ s .at;
+      tape = ap (λ (x : Seat). x .tape) seen;
+    }
+
+pub way-back : WayBack
+way-back w k h back r b e =
+    arrives w (run w (back ++ passing k)) h
+    (rw (run-append w back (passing k)) (passes k (run w back) (w .core .port .selected) 0 h (tapeOf w) e (goes-back w _ _ (tapeOf w) back b (stands-here w r))))
+
+-- ---- the strike comes back
+
+recorded-ready : (w : World) (bs : List (List ℕ)) → AllWhole bs → MayRecord w (length bs) → Ready (run w (recording bs))
+recorded-ready w bs a m =
+    let s = strike-recorded w bs a m .1 in
+    let r = m .ready in
+    record {
+      works = s .works;
+      rest = rw (s .port) (r .rest);
+      online = rw (s .port) (r .online);
+      loaded = ap (λ (x : Drive). x .loaded) (s .drive) ∙ r .loaded;
+      idle = ap (λ (x : Drive). x .mode) (s .drive) ∙ r .idle;
+      calm = ap (λ (x : Drive). x .exception) (s .drive) ∙ r .calm;
+    }
+
+-- the way leads to where the strike began, whose tape holds it
+pub strike-found : (w : World) (bs : List (List ℕ)) (k : ℕ) (back : List (List ℕ)) → AllWhole bs → MayRecord w (length bs)
+    → pastMarks k (trail (tapeOf w) 0) ≡ Past (driveOf w .head) → Back back
+    → Arrives (run w (recording bs)) (run (run w (recording bs)) (back ++ passing k)) (driveOf w .head)
+strike-found w bs k back a m e b =
+    let t = tapeOf w in
+    let h = driveOf w .head in
+    let t₁ = recorded t h (strike bs) in
+    let fits = strike-fits w bs a m in
+    let there : pastMarks k (trail t₁ 0) ≡ Past h =
+    past-same t t₁ 0 k h e (sym (recorded-before t (strike bs) h fits)) (rw (recorded-length t (strike bs) h fits) (omega (arith, fits))) in
+    way-back (run w (recording bs)) k h back (recorded-ready w bs a m) b
+    (ap (λ (x : List ℕ). pastMarks k (trail x 0)) (strike-recorded w bs a m .1 .tape) ∙ there)
+
+pub strike-comes-back : StrikeComesBack
+strike-comes-back w bs k back a m e b =
+    let s = strike-recorded w bs a m in
+    let w₂ = run (run w (recording bs)) (back ++ passing k) in
+    let way = strike-found w bs k back a m e b in
+    let held : Holds (tapeOf w₂) (driveOf w₂ .head) (strike bs) =
+    rw (way .tape, way .head, s .1 .tape) (recorded-holds (tapeOf w) (strike bs) (driveOf w .head) (strike-fits w bs a m)) in
+    (s .0, strike-handed-out w₂ bs a (way .ready) held)
