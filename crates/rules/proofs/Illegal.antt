@@ -1,9 +1,9 @@
--- An order is illegal exactly by the first four tests, and READ STATUS passes all seven.
-use Prim.Native.Nat.{ℕ}
-use mathlib.Core.Path.{_≡_, refl, sym, ap, _∙_}
-use mathlib.Core.Logic.{_↔_}
-use mathlib.Core.Bool.{Bool, true, false, not, _&&_, _||_, true≢false, false≢true}
+-- An order is illegal exactly by the first four tests, and then changes no tape.
+use Prim.Native.Nat.{ℕ, _≤_}
+use mathlib.Core.Path.{_≡_, refl, sym, ap, subst, _∙_}
+use mathlib.Core.Bool.{Bool, true, false, true≢false, false≢true}
 use mathlib.Core.List.{List}
+use native.Mathlib.Omega.{arith}
 use lib.ListN.{length}
 use Rattle.basis.specs.Choice.{pick}
 use Rattle.tape.specs.declared.found.Found.{Found}
@@ -15,35 +15,29 @@ use Rattle.tape.specs.declared.pass.Passed.the-variants.{Past, Stopped}
 use Rattle.tape.specs.Record.{foundAt}
 use Rattle.tape.specs.Walk.{passed}
 use Rattle.rules.specs.declared.drive.Drive.{Drive}
-use Rattle.rules.specs.declared.drive.Mode.{Mode}
-use Rattle.rules.specs.declared.drive.Mode.the-variants.{Idle, Writing, Reading}
+use Rattle.rules.specs.declared.drive.Mode.the-variants.{Reading}
+use Rattle.rules.specs.declared.drive.Bit.the-variants.{Ill}
+use Rattle.rules.specs.declared.phase.Phase.the-variants.{Rest}
+use Rattle.rules.specs.declared.unit.Port.{Port}
+use Rattle.rules.specs.declared.unit.Core.{Core}
+use Rattle.rules.specs.declared.event.Act.the-variants.{Command}
+use Rattle.rules.specs.declared.event.Event.the-variants.{Own}
 use Rattle.rules.specs.declared.order.Order.{Order}
 use Rattle.rules.specs.declared.order.Order.the-variants.{NoOrder, Select, Bot, Erase, Initialize, Write, WriteMark, Read, ReadMark, ReadStatus}
 use Rattle.rules.specs.declared.order.Fault.{Fault}
 use Rattle.rules.specs.declared.order.Fault.the-variants.{Fine, Illegal, Empty, Plugged, Full}
-use Rattle.rules.specs.Drive.{inMode, passedTo}
-use Rattle.rules.specs.Order.{orderOf, needsOf, inSequence, test5, test6, hasRoom, illegal, firstFault, faultBy}
+use Rattle.rules.specs.Drive.{latching, inMode, passedTo}
+use Rattle.rules.specs.Unit.{Lent, driveAt, putDrive, atPhase}
+use Rattle.rules.specs.Answer.{rowOf}
+use Rattle.rules.specs.Order.{orderOf}
 use Rattle.rules.specs.Edge.{halted, edged, checked, standing}
 use Rattle.rules.specs.Effect.{Seat, Acted, ordered, faultOf, commanded}
-use Rattle.rules.specs.Promises.Orders.{firstFour, IllegalExactly, OnlyIll, IllegalChangesNothing, LegalLatchesNoIll, StatusPasses}
-
-first-is : (i e p r : Bool) → (firstFault i e p r ≡ Illegal) ↔ (i ≡ true)
-unfolding pick
-first-is true e p r = (λ _. refl, λ _. refl)
-first-is false true p r = (λ h. cc, λ h. cc)
-first-is false false true r = (λ h. cc, λ h. cc)
-first-is false false false true = (λ h. cc, λ h. cc)
-first-is false false false false = (λ h. cc, λ h. cc)
-
-pub illegal-exactly : IllegalExactly
-unfolding faultOf faultBy illegal
-illegal-exactly s o =
-    first-is (firstFour s o) (test5 (s .drive) (needsOf o)) (test6 (s .drive) (needsOf o))
-    (hasRoom (needsOf o .room) (s .drive .head) (length (s .tape)))
-
-pub illegal-changes-nothing : IllegalChangesNothing
-illegal-changes-nothing g s c h =
-    rw (illegal-exactly s (orderOf c) .1 h) (record { raised = refl; exception = refl; ill = refl; tape = refl; head = refl; mode = refl })
+use Rattle.rules.specs.Step.{stagedIn, seatOf, landed, effectOf}
+use Rattle.rules.specs.Promises.Orders.{fits5, fits6, fits7, firstFour, OnlyIll, IllegalRules, IllegalExactly}
+use Rattle.rules.proofs.Places.{Got, same, other, got, put-same, tape-back}
+use Rattle.rules.proofs.Sound.{Sound}
+use Rattle.rules.proofs.StepBy.{step-sound}
+use Rattle.rules.proofs.Tests.{first-test-decides}
 
 -- ---- no other order latches ILL
 
@@ -85,20 +79,58 @@ commanded-ill s o Empty n h = h
 commanded-ill s o Plugged n h = h
 commanded-ill s o Full n h = h
 
-pub legal-latches-no-ill : LegalLatchesNoIll
-legal-latches-no-ill g s c n h =
-    commanded-ill s (orderOf c) (faultOf s (orderOf c)) (λ e. true≢false (sym (illegal-exactly s (orderOf c) .0 e) ∙ n)) h
+-- ---- of one event
 
--- ---- READ STATUS
+four-decide : (s : Seat) (k : ℕ) → firstFour (s .port .online) (s .drive) k ≡ true → faultOf s (orderOf k) ≡ Illegal
+unfolding pick
+four-decide s k h = first-test-decides s k ∙ rw h
 
-pub status-passes : StatusPasses
-unfolding faultOf faultBy illegal pick
-status-passes s = go (s .drive .exception) (s .drive .mode)
+four-let : (s : Seat) (k : ℕ) → firstFour (s .port .online) (s .drive) k ≡ false → faultOf s (orderOf k) ≡ Illegal → ⊥
+unfolding pick
+four-let s k h e =
+    go (fits5 (s .drive) k) (fits6 (s .drive) k) (fits7 (s .drive) (length (s .tape)) k) (rw h at (sym (first-test-decides s k) ∙ e))
   where
-    go : (e : Bool) (m : Mode) → firstFault (e && false || (false || (not (inSequence m (needsOf ReadStatus)) || false))) false false true ≡ Fine
-    go true Idle = refl
-    go true Writing = refl
-    go true Reading = refl
-    go false Idle = refl
-    go false Writing = refl
-    go false Reading = refl
+    go : (a b c : Bool) → pick a Empty (pick b Plugged (pick c Full Fine)) ≡ Illegal → ⊥
+    go true b c q = let z : _≡_ {A = ℕ} 0 1 = cc in omega arith
+    go false true c q = let z : _≡_ {A = ℕ} 0 1 = cc in omega arith
+    go false false true q = let z : _≡_ {A = ℕ} 0 1 = cc in omega arith
+    go false false false q = let z : _≡_ {A = ℕ} 0 1 = cc in omega arith
+
+-- the drive with number i after the selected one became d
+other-same : {A : Type 0} (f : Drive → A) (c : Core) (p : Port) (d : Drive) (i : ℕ) → i ≤ 3 → c .port .selected ≤ 3
+    → f d ≡ f (driveAt c (c .port .selected)) → f (driveAt (putDrive c p (c .port .selected) d) i) ≡ f (driveAt c i)
+other-same f c p d i r n e = go _ (got i (c .port .selected) d (c .drive0) (c .drive1) (c .drive2) (c .drive3) r n)
+  where
+    go : (x : Drive) → Got i (c .port .selected) d (driveAt c i) x → f x ≡ f (driveAt c i)
+    go x (same q) = e ∙ ap (λ (j : ℕ). f (driveAt c j)) q
+    go x (other q) = refl
+
+illegal-leaves : (c : Core) (l : Lent) (k : ℕ) → Sound c l → firstFour (c .port .online) (driveAt c (c .port .selected)) k ≡ true
+    → OnlyIll c l (effectOf c l (Own (Command k)))
+unfolding pick
+illegal-leaves c l k s h =
+    let d = latching Ill (driveAt c (c .port .selected)) in
+    let e = four-decide (seatOf c l) k h in
+    subst (λ (m : Acted). OnlyIll c l (landed c (stagedIn c (Command k) l) m)) (sym (ap (commanded (seatOf c l) (orderOf k)) e))
+    (record {
+      answer = refl;
+      lent = tape-back l (c .port .selected);
+      heads = λ i r. other-same (λ (x : Drive). x .head) c (atPhase Rest (c .port)) d i r (s .sel) refl;
+      modes = λ i r. other-same (λ (x : Drive). x .mode) c (atPhase Rest (c .port)) d i r (s .sel) refl;
+      exception = rw put-same;
+      ill = rw put-same;
+    })
+
+legal-latches-none : (c : Core) (l : Lent) (k : ℕ) → firstFour (c .port .online) (driveAt c (c .port .selected)) k ≡ false
+    → driveAt (effectOf c l (Own (Command k)) .turn .core) (c .port .selected) .latched .ill ≡ true
+    → driveAt c (c .port .selected) .latched .ill ≡ true
+legal-latches-none c l k n h =
+    commanded-ill (seatOf c l) (orderOf k) (faultOf (seatOf c l) (orderOf k)) (four-let (seatOf c l) k n) (rw put-same at h)
+
+effect-illegal : (c : Core) (l : Lent) (k : ℕ) → Sound c l → IllegalRules c l k (effectOf c l (Own (Command k)))
+effect-illegal c l k s = record { illegal = illegal-leaves c l k s; legal = legal-latches-none c l k }
+
+pub illegal-exactly : IllegalExactly
+illegal-exactly c l event k w q =
+    step-sound (λ s. rowOf (s .turn .answer) .refuses ≡ false → IllegalRules c l k s) c l event w
+    (λ a r h. absurd (true≢false (sym r ∙ h))) (λ s _ _. rw q (effect-illegal c l k s))

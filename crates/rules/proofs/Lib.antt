@@ -3,6 +3,7 @@ pub mod Numbers
 pub mod Places
 pub mod Sound
 pub mod Codes
+pub mod Tests
 pub mod Acts
 pub mod Leaves
 pub mod Good

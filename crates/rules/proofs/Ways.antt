@@ -39,7 +39,7 @@ use Rattle.rules.specs.Bytes.{octetTaken, afterOctet}
 use Rattle.rules.specs.Online.{dropped}
 use Rattle.rules.specs.Step.{act}
 use Rattle.rules.specs.Run.{World, after}
-use Rattle.rules.proofs.Illegal.{status-passes}
+use Rattle.rules.proofs.Tests.{status-passes}
 use Rattle.rules.proofs.Seated.{Sits, Moves, sits-step}
 use Rattle.rules.proofs.Handing.{take-event}
 

@@ -18,7 +18,7 @@ use Rattle.rules.specs.declared.phase.Phase.the-variants.{Rest, Taking}
 use Rattle.rules.specs.declared.event.Act.{Act}
 use Rattle.rules.specs.declared.event.Act.the-variants.{Command, Give, Offline}
 use Rattle.rules.specs.declared.event.What.{What}
-use Rattle.rules.specs.declared.event.What.the-variants.{Out, Underrun}
+use Rattle.rules.specs.declared.event.What.the-variants.{Out, Error, Underrun}
 use Rattle.rules.specs.declared.event.Event.{Event}
 use Rattle.rules.specs.declared.event.Event.the-variants.{Reset, Named, Own}
 use Rattle.rules.specs.declared.order.Order.{Order}
@@ -40,7 +40,7 @@ use Rattle.rules.specs.Slot.{befallen}
 use Rattle.rules.specs.Step.{Stepped, act, stagedIn, seatOf, landed, effectOf, stepOf}
 use Rattle.rules.specs.Run.{World, after, run, turnOf}
 use Rattle.rules.specs.Promises.Status.{ByStatus}
-use Rattle.rules.specs.Promises.Wrong.{Shows, Unread, CniStillShows, CountWaits, UnderrunWaits, PlacedFirst, FirstByteFirst, OfflineRewindsNoOther, OneMarkOnly}
+use Rattle.rules.specs.Promises.Wrong.{Shows, Unread, CniStillShows, CountWaits, errorsOf, underrunsOf, UnderrunWaits, ErrorWaits, PlacedFirst, FirstByteFirst, OfflineRewindsNoOther, OneMarkOnly}
 use Rattle.rules.proofs.Places.{put-same}
 use Rattle.rules.proofs.Acts
 use Rattle.rules.proofs.Sound.{Sound}
@@ -101,16 +101,27 @@ cni-still-shows w i r k e q h es u =
 
 -- ---- counts, the first byte, ONLINE
 
-record Counted (c : Core) (i : ℕ) (s : Stepped) : Type 0 where
+record Counted (c : Core) (i : ℕ) (mine others : Drive → ℕ) (s : Stepped) : Type 0 where
   port : s .turn .core .port ≡ c .port
-  count : driveAt (s .turn .core) i .underruns .0 ≡ counted (driveAt c i .underruns .0)
+  count : mine (driveAt (s .turn .core) i) ≡ counted (mine (driveAt c i))
+  beside : others (driveAt (s .turn .core) i) ≡ others (driveAt c i)
+
+count-waits : (w : World) (i : ℕ) (e : List ℕ) (what : What) (mine others : Drive → ℕ) → eventOf e ≡ Named i what → turnOf w e .answer ≡ Taken
+    → Counted (w .core) i mine others (effectOf (w .core) (w .lent) (Named i what)) → CountWaits w e i mine others
+unfolding after turnOf
+count-waits w i e what mine others q h c =
+    let r = effect-by (Counted (w .core) i mine others) (w .core) (w .lent) e (Named i what) q Taken refl h (λ _. c) in
+    record { port = r .port; count = r .count; beside = r .beside }
 
 pub underrun-waits : UnderrunWaits
-unfolding after turnOf pick
+unfolding pick
 underrun-waits w i e q h =
-    let r = effect-by (Counted (w .core) i) (w .core) (w .lent) e (Named i Underrun) q Taken refl h
-    (λ _. record { port = refl; count = rw put-same }) in
-    record { port = r .port; count = r .count }
+    count-waits w i e Underrun underrunsOf errorsOf q h (record { port = refl; count = rw put-same; beside = rw put-same })
+
+pub error-waits : ErrorWaits
+unfolding pick
+error-waits w i e q h =
+    count-waits w i e Error errorsOf underrunsOf q h (record { port = refl; count = rw put-same; beside = rw put-same })
 
 record Placed (l : Lent) (b : ℕ) (s : Stepped) : Type 0 where
   staging : s .lent .staging ≡ set (l .staging) 0 b

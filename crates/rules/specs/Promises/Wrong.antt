@@ -5,9 +5,10 @@ use mathlib.Core.List.{List, [], _∷_}
 use lib.ListN.{set}
 use Rattle.tape.specs.Record.{markRecord}
 use Rattle.tape.specs.Recording.{recorded}
+use Rattle.rules.specs.declared.drive.Drive.{Drive}
 use Rattle.rules.specs.declared.phase.Phase.the-variants.{Rest, Taking}
 use Rattle.rules.specs.declared.event.Act.the-variants.{Command, Give, Offline}
-use Rattle.rules.specs.declared.event.What.the-variants.{Out, Underrun}
+use Rattle.rules.specs.declared.event.What.the-variants.{Out, Error, Underrun}
 use Rattle.rules.specs.declared.event.Event.the-variants.{Reset, Named, Own}
 use Rattle.rules.specs.declared.answer.Answer.the-variants.{Taken, Raised}
 use Rattle.rules.specs.Drive.{counted}
@@ -32,13 +33,24 @@ CniStillShows =
     (w : World) (i : ℕ) → i ≤ 3 → Whole (w .lent) → (e : List ℕ) → eventOf e ≡ Named i Out → turnOf w e .answer ≡ Raised
     → (es : List (List ℕ)) → Unread i (after w e) es → Shows cni (octet0 (driveAt (run (after w e) es .core) i))
 
--- A count never touches octets that are made: port and octets stay, the drive has one more for its next report.
-pub record CountWaits (w : World) (e : List ℕ) (i : ℕ) : Type 0 where
+-- A count never touches octets that are made: port and octets stay, the drive has one more for its next report, and of the other kind as many.
+pub record CountWaits (w : World) (e : List ℕ) (i : ℕ) (mine others : Drive → ℕ) : Type 0 where
   pub port : after w e .core .port ≡ w .core .port
-  pub count : driveAt (after w e .core) i .underruns .0 ≡ counted (driveAt (w .core) i .underruns .0)
+  pub count : mine (driveAt (after w e .core) i) ≡ counted (mine (driveAt (w .core) i))
+  pub beside : others (driveAt (after w e .core) i) ≡ others (driveAt (w .core) i)
+
+abbrev pub errorsOf : Drive → ℕ
+errorsOf d = d .errors .0
+
+abbrev pub underrunsOf : Drive → ℕ
+underrunsOf d = d .underruns .0
 
 abbrev pub UnderrunWaits : Type 0
-UnderrunWaits = (w : World) (i : ℕ) (e : List ℕ) → eventOf e ≡ Named i Underrun → turnOf w e .answer ≡ Taken → CountWaits w e i
+UnderrunWaits =
+    (w : World) (i : ℕ) (e : List ℕ) → eventOf e ≡ Named i Underrun → turnOf w e .answer ≡ Taken → CountWaits w e i underrunsOf errorsOf
+
+abbrev pub ErrorWaits : Type 0
+ErrorWaits = (w : World) (i : ℕ) (e : List ℕ) → eventOf e ≡ Named i Error → turnOf w e .answer ≡ Taken → CountWaits w e i errorsOf underrunsOf
 
 -- A part block left in staging must not begin another block: the first byte is placed at 0 whatever staging holds.
 pub record PlacedFirst (w : World) (e : List ℕ) (b : ℕ) : Type 0 where
