@@ -48,7 +48,7 @@ pub refused-keeps : RefusedKeeps
 refused-keeps l t event out l′ t′ small (of-none none p) h = (p .left, p .tapes)
 refused-keeps l t event out l′ t′ small (of-record so p) h =
     let number : 2 ≤ rowOf (p .turn .answer) .number = subst (λ (x : List ℕ). 2 ≤ byteAt x 0) (p .result) h in
-    let found = demands-hold .refused (coreOf l) (lentWith (stagingOf l) t) event (p .turn) (lentWith (p .staging) t′) (p .steps)
+    let found = demands-hold .answered (coreOf l) (lentWith (stagingOf l) t) event (p .turn) (lentWith (p .staging) t′) (p .steps) .refused
     (refuses (p .turn .answer) number) in
     (p .left ∙ ap₂ (λ c (g : Lent). unitBytes (unit c (g .staging))) (found .core) (found .lent) ∙ one-form l small so, ap tapesIn (found .lent))
 

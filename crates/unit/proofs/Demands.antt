@@ -1,28 +1,38 @@
 -- The demands, carried from the book to runs of the step.
-use Prim.Native.Nat.{ℕ}
-use mathlib.Core.Path.{_≡_, refl, sym, ap, ap₂, _∙_}
-use mathlib.Core.Bool.{Bool, true}
-use mathlib.Core.List.{List, [], _∷_}
+use Prim.Native.Nat.{ℕ, _≤_}
+use mathlib.Core.Path.{_≡_, refl, sym, ap, ap₂, subst, _∙_}
+use mathlib.Core.Bool.{Bool, true, false}
+use mathlib.Core.List.{List, [], _∷_, _++_}
+use lib.ListN.{length}
 use Rattle.rules.specs.declared.unit.Core.{Core}
 use Rattle.rules.specs.declared.answer.Turn.{Turn}
-use Rattle.rules.specs.Unit.{Lent}
+use Rattle.rules.specs.Unit.{Lent, Whole, driveAt, tapeAt}
 use Rattle.rules.specs.Event.{eventOf}
 use Rattle.rules.specs.Answer.{rowOf}
-use Rattle.rules.specs.Step.{Stepped, stepped, Steps}
-use Rattle.rules.specs.Run.{World, world}
+use Rattle.rules.specs.Step.{Stepped, stepped, stepOf, Steps}
+use Rattle.rules.specs.Run.{World, world, run}
 use Rattle.rules.specs.Reach.{Change, realChange, anyLevel, Gave, reachesBy, gaveBy, onlyIf, reaches, gave, reached, given}
+use Rattle.rules.specs.Promises.Table.{answerTo}
+use Rattle.rules.specs.Promises.Refused.{AsFound, ByteRules}
+use Rattle.rules.specs.Promises.Orders.{IllegalRules}
+use Rattle.rules.specs.Promises.Status.{ByStatus}
+use Rattle.rules.specs.Promises.Changes.{Happens}
+use Rattle.rules.specs.Promises.Changes
+use Rattle.rules.specs.Promises.Strike.{recording, reading, passing, bytesOf}
 use Rattle.rules.specs.Promises.Demand3.{Demand3For}
-use Rattle.rules.specs.Promises.Refused.{AsFound}
-use Rattle.rules.proofs.Refused.{refused-keeps}
-use Rattle.rules.proofs.Demand3.{demand-3, demand-3-any-level}
 use Rattle.rules.specs.Ran.{Ran, no-event, next}
-use Rattle.unit.specs.Demands.{reachedIn, gaveIn, OneDrive, DemandsHold}
+use Rattle.rules.proofs.Table.{answers-by-the-table}
+use Rattle.rules.proofs.Refused.{refused-keeps, bytes-exactly}
+use Rattle.rules.proofs.Illegal.{illegal-exactly}
+use Rattle.rules.proofs.Status.{exception-falls}
+use Rattle.rules.proofs.Keeps.{protected-keeps}
+use Rattle.rules.proofs.Plug.{other-tapes-stay, other-drives-stay}
+use Rattle.rules.proofs.Changes.{one-change, recording-happens}
+use Rattle.rules.proofs.Returns.{strike-comes-back}
+use Rattle.rules.proofs.Among.{strike-among-others}
+use Rattle.rules.proofs.Demand3.{demand-3, demand-3-any-level}
 use Rattle.rules.proofs.Ran.{steps-are-the-books, runs-are-the-books}
-
-refused : (c : Core) (l : Lent) (event : List ℕ) (r : Turn) (l′ : Lent) → Steps c l event r l′ → rowOf (r .answer) .refuses ≡ true
-    → AsFound c l (stepped r l′)
-refused c l event r l′ p h =
-    rw (p .is) (refused-keeps c l event (ap (λ (s : Stepped). rowOf (s .turn .answer) .refuses) (sym (p .is)) ∙ h))
+use Rattle.unit.specs.Demands.{reachedIn, gaveIn, OneDrive, ComesBack, ComesBackAmongOthers, Answered, ByTheRules, DemandsHold}
 
 -- what a run of the step shows of a drive is what the book's shows
 record Seen (k : Change) (d : ℕ) (w : World) (es : List (List ℕ)) (rs : List Turn) : Type 0 where
@@ -55,12 +65,60 @@ one-drive k book d d3 a b c e a′ b′ c′ e′ h h′ t es es′ rs rs′ w w
       x .gave-is ∙ fate .gives ∙ sym (x′ .gave-is),
     )
 
+-- ---- the strike
+
+comes-back : ComesBack
+comes-back w w₁ w₂ w₃ bs k back rs₁ rs₂ rs₃ a m e b p q r =
+    let x = runs-are-the-books w w₁ (recording bs) rs₁ p in
+    let y = runs-are-the-books w₁ w₂ (back ++ passing k) rs₂ q in
+    let z = runs-are-the-books w₂ w₃ (reading (length bs)) rs₃ r in
+    let there : w₂ ≡ run (run w (recording bs)) (back ++ passing k) = y .left ∙ ap (λ (v : World). run v (back ++ passing k)) (x .left) in
+    let s = strike-comes-back w bs k back a m e b in
+    (rw (x .answered) (s .0), rw (z .left, z .answered, there) (s .1))
+
+among-others : ComesBackAmongOthers
+among-others d d3 a b c e h before es bs k back sel whole may began bk rs w′ p same =
+    let x = seen realChange d _ w′ es rs p in
+    ap bytesOf (x .gave-is) ∙ strike-among-others d d3 a b c e h before es bs k back sel whole may began bk (sym (x .reached-is) ∙ same)
+
+-- ---- one event
+
+-- what holds of the book's step holds of what the step handed back and left
+carry : (P : Stepped → Type 0) (c : Core) (l : Lent) (event : List ℕ) (r : Turn) (l′ : Lent) → Steps c l event r l′ → P (stepOf c l event)
+    → P (stepped r l′)
+carry P c l event r l′ p = subst P (sym (p .is))
+
+answered : (c : Core) (l : Lent) (event : List ℕ) (r : Turn) (l′ : Lent) → Steps c l event r l′ → Answered c l event r l′
+answered c l event r l′ p =
+    record {
+      answer = carry (λ s. s .turn .answer ≡ answerTo c l event) c l event r l′ p refl;
+      table = answers-by-the-table c l event;
+      refused = carry (λ s. rowOf (s .turn .answer) .refuses ≡ true → AsFound c l s) c l event r l′ p (refused-keeps c l event);
+    }
+
+by-the-rules : (c : Core) (l : Lent) (event : List ℕ) (r : Turn) (l′ : Lent) → Whole l → Steps c l event r l′ → ByTheRules c l event r l′
+by-the-rules c l event r l′ w p =
+    let of : (P : Stepped → Type 0) → P (stepOf c l event) → P (stepped r l′) = λ P. carry P c l event r l′ p in
+    let n = c .port .selected in
+    record {
+      illegal = λ k q. of (λ s. rowOf (s .turn .answer) .refuses ≡ false → IllegalRules c l k s) (illegal-exactly c l event k w q);
+      exception = λ i h up. of (λ s. driveAt (s .turn .core) i .exception ≡ false → ByStatus c event i) (exception-falls c l event i h w up);
+      bytes = of (ByteRules c l event) (bytes-exactly c l event w);
+      plug = λ i h q. of (λ s. tapeAt (s .lent) i ≡ tapeAt l i) (protected-keeps c l event i h w q);
+      cable = λ i h q. of (λ s. tapeAt (s .lent) i ≡ tapeAt l i) (other-tapes-stay c l event i h w q);
+      cable-record = λ i h q m. of (λ s. driveAt (s .turn .core) i ≡ driveAt c i) (other-drives-stay c l event i h w q m);
+      change = of (λ s. Changes.Change c l event (tapeAt (s .lent) n)) (one-change c l event w);
+      happens = of (λ s. Happens c l event (tapeAt (s .lent) n)) (recording-happens c l event w);
+    }
+
 pub demands-hold : DemandsHold
 demands-hold =
     record {
-      answered = λ c l event r l′ p. ap (λ (s : Stepped). s .turn .answer) (p .is);
-      refused = refused;
+      answered = answered;
+      by-the-rules = by-the-rules;
       books = runs-are-the-books;
       one-drive = one-drive realChange demand-3;
       one-drive-any-level = one-drive anyLevel demand-3-any-level;
+      strike = comes-back;
+      strike-among-others = among-others;
     }
