@@ -17,6 +17,7 @@ pub mod Plug
 pub mod Changes
 pub mod Outcomes
 pub mod Runs
+pub mod Sentences
 pub mod Wrong
 pub mod Sight
 pub mod Agree

@@ -7,6 +7,7 @@ pub mod Possible
 pub mod Plug
 pub mod Changes
 pub mod Runs
+pub mod Sentences
 pub mod Wrong
 pub mod Outcomes
 pub mod Demand3
