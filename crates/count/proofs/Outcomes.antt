@@ -1,16 +1,12 @@
 -- Each public contract leaves one outcome.
-use Rattle.rules.specs.declared.drive.Drive.{Drive}
-use Rattle.rules.specs.declared.unit.Core.{Core}
-use Rattle.rules.specs.Drive.{errorCounted, underrunCounted}
-use Rattle.rules.proofs.Outcomes.{moves-once}
+use Rattle.basis.specs.Tests.{same}
 use Rattle.count.specs.Outcomes.{OneOutcome}
-use Rattle.count.proofs.Promised.{movedAt}
 
 pub one-outcome : OneOutcome
 one-outcome =
     record {
-      raise-errors = moves-once Drive Drive errorCounted;
-      raise-underruns = moves-once Drive Drive underrunCounted;
-      count-errors = λ i. moves-once Core Core (movedAt errorCounted i);
-      count-underruns = λ i. moves-once Core Core (movedAt underrunCounted i);
+      raise-errors = λ d d′ d″ p q. same p q;
+      raise-underruns = λ d d′ d″ p q. same p q;
+      count-errors = λ i c r r′ p q. same p q;
+      count-underruns = λ i c r r′ p q. same p q;
     }

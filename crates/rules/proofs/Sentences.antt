@@ -28,7 +28,6 @@ sentences-hold =
       fresh = refl;
       start = refl;
       reset = refl;
-      unit-reset = refl;
       lines = refl;
       phases = refl;
       numbers = refl;

@@ -99,6 +99,3 @@ resetCore c =
       drive2 = wasReset (c .drive2);
       drive3 = wasReset (c .drive3);
     }
-
-abbrev pub resetUnit : Unit → Unit
-resetUnit u = record { core = resetCore (u .core); staging = u .staging }

@@ -1,7 +1,7 @@
 // The unit's record: what the cable and the selected drive share, four drives, and the staging block.
 ghost use mathlib.Core.Path.{_≡_};
 ghost use Rattle.rules.specs.Unit.{atPhase, atLevel, atDrive, showing, resetPort, freshPort};
-ghost use Rattle.rules.specs.Unit.{driveAt, putDrive, freshCore, resetCore, freshUnit, resetUnit};
+ghost use Rattle.rules.specs.Unit.{driveAt, putDrive, freshCore, resetCore, freshUnit};
 use crate::OCTETS;
 use crate::drive::Drive;
 use crate::phase::Phase;
@@ -173,14 +173,5 @@ impl Unit {
             core,
             staging: [0; BODY],
         }
-    }
-
-    pub fn reset(self) -> Unit
-        ensures { λ r. ⌜ r ≡ resetUnit self ⌝ }
-    {
-        let c = self.core;
-        let core = c.reset();
-        let staging = self.staging;
-        Unit { core, staging }
     }
 }

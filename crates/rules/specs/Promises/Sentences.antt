@@ -9,9 +9,9 @@ pub mod Line
 pub mod Slots
 pub mod Octets
 use mathlib.Core.Path.{_≡_}
-use Rattle.rules.specs.Unit.{freshUnit, resetUnit}
+use Rattle.rules.specs.Unit.{freshUnit}
 use Rattle.rules.specs.Promises.Sentences.Form.{Hold}
-use Rattle.rules.specs.Promises.Sentences.State.{newUnit, starting, busyUnit, busyUnitReset, resetting, litLines, phasesTold}
+use Rattle.rules.specs.Promises.Sentences.State.{newUnit, starting, resetting, litLines, phasesTold}
 use Rattle.rules.specs.Promises.Sentences.Refusals.{answersTold, impossible, TooLongIs, FiveThenSix, malformed, outOfStep, noSlot}
 use Rattle.rules.specs.Promises.Sentences.Orders.{exceptionUp, unknownCode, sequence, lineLow, empty, plug, room}
 use Rattle.rules.specs.Promises.Sentences.Orders.{selecting, homing, marking, reading, passing, status, bitsStay}
@@ -25,7 +25,6 @@ pub record SentencesHold : Type 0 where
   pub fresh : freshUnit ≡ newUnit
   pub start : Hold starting
   pub reset : Hold resetting
-  pub unit-reset : resetUnit busyUnit ≡ busyUnitReset
   pub lines : Hold litLines
   pub phases : phasesTold
   -- Answers

@@ -56,16 +56,6 @@ afterReset level =
       lent = lentAs oldStaging tape0 tape1 odd tape3;
     }
 
--- The same of the whole record, as a unit that is held with its staging block.
-abbrev pub unitOf : World → Unit
-unitOf w = record { core = w .core; staging = w .lent .staging }
-
-abbrev pub busyUnit : Unit
-busyUnit = unitOf (scene up (Taking 3) (quiet free 5 Writing) odd)
-
-abbrev pub busyUnitReset : Unit
-busyUnitReset = unitOf (afterReset up)
-
 abbrev pub resets : Bool → Phase → Drive → Case
 resets level ph d = row (scene level ph d odd) (6 ∷ []) (says 1 E) (afterReset level)
 
