@@ -11,8 +11,8 @@ pub mod Octets
 use mathlib.Core.Path.{_≡_}
 use Rattle.rules.specs.Unit.{freshUnit}
 use Rattle.rules.specs.Promises.Sentences.Form.{Hold}
-use Rattle.rules.specs.Promises.Sentences.State.{newUnit, starting, resetting, litLines, phasesTold}
-use Rattle.rules.specs.Promises.Sentences.Refusals.{answersTold, impossible, TooLongIs, FiveThenSix, malformed, outOfStep, noSlot}
+use Rattle.rules.specs.Promises.Sentences.State.{newUnit, starting, resetting, litLines, PhasesTold}
+use Rattle.rules.specs.Promises.Sentences.Refusals.{AnswersTold, impossible, TooLongIs, FiveThenSix, malformed, outOfStep, noSlot}
 use Rattle.rules.specs.Promises.Sentences.Orders.{exceptionUp, unknownCode, sequence, lineLow, empty, plug, room}
 use Rattle.rules.specs.Promises.Sentences.Orders.{selecting, homing, marking, reading, passing, status, bitsStay}
 use Rattle.rules.specs.Promises.Sentences.Bytes.{giving, storing, octetsOut, taking, nothingThere, spoiling, lastTaken, wholeBlock}
@@ -26,9 +26,9 @@ pub record SentencesHold : Type 0 where
   pub start : Hold starting
   pub reset : Hold resetting
   pub lines : Hold litLines
-  pub phases : phasesTold
+  pub phases : PhasesTold
   -- Answers
-  pub numbers : answersTold
+  pub numbers : AnswersTold
   pub answer5 : Hold impossible
   pub answer6 : TooLongIs
   pub order : FiveThenSix

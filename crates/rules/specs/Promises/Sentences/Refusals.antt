@@ -21,8 +21,8 @@ use Rattle.rules.specs.Promises.Sentences.Scene.{up, low, latched, none,
 use Rattle.rules.specs.Promises.Sentences.Scene.{free, plugged, lentAs}
 
 -- The answers: the number of each, whether it leaves all as found, whether the lines go down, whether a byte can come with it.
-abbrev pub answersTold : Type 0
-answersTold =
+abbrev pub AnswersTold : Type 0
+AnswersTold =
     map rowOf (Taken ∷ Raised ∷ OutOfStep ∷ WrongSlot ∷ Malformed ∷ Impossible ∷ TooLong ∷ [])
     ≡ tells 0 false false true
     ∷ tells 1 false false true

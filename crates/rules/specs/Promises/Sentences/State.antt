@@ -108,6 +108,6 @@ tells w f g t l = record { which = w; far = f; given = g; taken = t; left = l }
 abbrev pub toldOf : Phase → Told
 toldOf ph = tells (whichPhase ph) (howFar ph) (givenBefore ph) (takenBefore ph) (outstanding ph)
 
-abbrev pub phasesTold : Type 0
-phasesTold =
+abbrev pub PhasesTold : Type 0
+PhasesTold =
     map toldOf (Rest ∷ Taking 5 ∷ Giving 6 ∷ Status 4 ∷ []) ≡ tells 0 0 0 0 0 ∷ tells 1 5 5 0 0 ∷ tells 2 6 0 6 0 ∷ tells 3 4 0 0 4 ∷ []
