@@ -1,12 +1,12 @@
 -- All that an act of the host can leave, leaf by leaf, with what is known at each: every promise about one act goes by these cases.
 use Prim.Native.Nat.{ℕ, _+_, _-_, _≤_}
-use mathlib.Core.Path.{_≡_, refl, sym, ap, _∙_}
-use mathlib.Core.Bool.{Bool, true, false, not, _&&_, _||_, false≢true}
+use mathlib.Core.Path.{_≡_, refl, ap, _∙_}
+use mathlib.Core.Bool.{Bool, true, false, not, false≢true}
 use mathlib.Core.List.{List}
 use native.Mathlib.Omega.{arith}
-use lib.Dec.{ltb, leb, eqb}
+use lib.Dec.{ltb, leb}
 use lib.ListN.{length, getD}
-use borrow.Author.Tests.{leb-true, leb-false, ltb-true, ltb-false}
+use borrow.Author.Tests.{leb-true, ltb-true, ltb-false}
 use Rattle.basis.specs.Choice.{pick}
 use Rattle.tape.specs.declared.found.Found.{Found}
 use Rattle.tape.specs.declared.found.Found.the-variants.{Block, Mark, Stop}
@@ -34,8 +34,8 @@ use Rattle.rules.specs.Edge.{isBlock, checked, standing}
 use Rattle.rules.specs.Octets.{octetsOf}
 use Rattle.rules.specs.Effect.{Seat, Acted, leaves, hands, withMark, withBlock, resting, ordered, faultOf, commanded}
 use Rattle.rules.specs.Phase.{givenBefore}
-use Rattle.rules.specs.Bytes.{roomToWrite, afterBlock, stored, byteGiven, handed, firstTaken, nextTaken, octetPlace, afterOctet, octetTaken, byteTaken}
-use Rattle.rules.specs.Online.{levelled, leftAlone, leaving, dropped}
+use Rattle.rules.specs.Bytes.{roomToWrite, afterBlock, stored, byteGiven, handed, octetPlace, afterOctet, octetTaken, byteTaken}
+use Rattle.rules.specs.Online.{leaving, dropped}
 use Rattle.rules.specs.Step.{act}
 use Rattle.basis.proofs.Choosing.{both, not-not}
 use Rattle.rules.proofs.Sound.{SoundSeat}

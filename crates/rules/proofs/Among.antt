@@ -1,11 +1,10 @@
 -- A strike among other events: what reaches a drive decides what it hands out, and the strike's bytes come last.
-use Prim.Native.Nat.{ℕ, zero, suc, _*_, _≤_}
+use Prim.Native.Nat.{ℕ, zero, suc, _*_}
 use mathlib.Core.Path.{_≡_, refl, sym, ap, subst, _∙_}
-use mathlib.Core.Bool.{Bool, true, false, _||_}
-use mathlib.Core.List.{List, [], _∷_, _++_, append-assoc}
+use mathlib.Core.Bool.{Bool, true, false}
+use mathlib.Core.List.{List, [], _∷_, _++_}
 use mathlib.Core.Option.{Option, none, some}
-use lib.Dec.{eqb}
-use lib.ListN.{length, replicate}
+use lib.ListN.{length}
 use borrow.Author.Tests.{eq-eqb}
 use Rattle.basis.specs.Choice.{pick}
 use Rattle.rules.specs.declared.unit.Port.{Port}
@@ -13,28 +12,26 @@ use Rattle.rules.specs.declared.event.Act.{Act}
 use Rattle.rules.specs.declared.event.Act.the-variants.{Command, Take}
 use Rattle.rules.specs.declared.event.Event.{Event}
 use Rattle.rules.specs.declared.event.Event.the-variants.{Own}
-use Rattle.rules.specs.declared.order.Order.{Order}
 use Rattle.rules.specs.declared.order.Order.the-variants.{Read}
 use Rattle.rules.specs.declared.order.Fault.{Fault}
 use Rattle.rules.specs.declared.order.Fault.the-variants.{Fine, Illegal, Empty, Plugged, Full}
 use Rattle.rules.specs.declared.answer.Answer.the-variants.{Taken}
-use Rattle.rules.specs.declared.answer.Turn.{Turn}
-use Rattle.rules.specs.Event.{bodiedEvent, eventOf}
+use Rattle.rules.specs.Event.{eventOf}
 use Rattle.rules.specs.Refusal.{refusalIn}
-use Rattle.rules.specs.Order.{orderOf}
 use Rattle.rules.specs.Effect.{Seat, commanded, faultOf}
-use Rattle.rules.specs.Step.{Stepped, stagedIn, seatOf, effectOf}
+use Rattle.rules.specs.Step.{seatOf, effectOf}
 use Rattle.rules.specs.Run.{World, after, run, turnOf, turns, takenTimes, freshWorld}
-use Rattle.rules.specs.Reach.{realChange, Shown, Gave, onlyIf, reaches, reachesBy, gave, given}
+use Rattle.rules.specs.Reach.{realChange, Shown, Gave, onlyIf, reaches, gave, given}
 use Rattle.rules.specs.Promises.Strike.{Works, handedOut, reading, passing, recording, byteOf, bytesOf, handedBy, StrikeAmongOthers}
 use Rattle.rules.proofs.Sound.{Sound, sound}
 use Rattle.rules.proofs.StepBy.{sound-step, own-does}
-use Rattle.rules.proofs.Keeps.{fresh-is-possible, step-stays-sound}
+use Rattle.rules.proofs.Keeps.{step-stays-sound}
+use Rattle.rules.proofs.Codes.{orders, command-event}
 use Rattle.rules.proofs.Ports.{take-ported}
 use Rattle.rules.proofs.Demand3.{demand-3}
 use Rattle.rules.proofs.Ran.{run-append}
 use Rattle.rules.proofs.Handing.{take-event}
-use Rattle.rules.proofs.Strike.{strike-recorded}
+use Rattle.rules.proofs.Struck.{strike-recorded}
 use Rattle.rules.proofs.Returns.{strike-found, strike-comes-back}
 
 -- ---- one list of events after another
@@ -99,14 +96,6 @@ take-stays w k =
     (λ k′ h. subst (λ (e : Event). refusalIn (w .core) e ≡ Taken → effectOf (w .core) (w .lent) e .turn .core .port .selected ≡ w .core .port .selected)
     (sym take-event) (λ h′. take-ported _ _ _ (own-does (w .core) (w .lent) Take k′ h′) .0) h)
 
-read-event : eventOf (1 ∷ 128 ∷ []) ≡ Own (Command 128)
-unfolding eventOf bodiedEvent pick
-read-event = refl
-
-read-code : orderOf 128 ≡ Read
-unfolding orderOf pick
-read-code = refl
-
 read-here : (s : Seat) (f : Fault) → commanded s Read f .moved .port .selected ≡ s .port .selected
 read-here s Fine = refl
 read-here s Illegal = refl
@@ -118,7 +107,7 @@ read-stays : (w : World) → Sound (w .core) (w .lent) → turnOf w (1 ∷ 128 �
 unfolding turnOf
 read-stays w k =
     sound-step (λ s. s .turn .core .port .selected ≡ w .core .port .selected) (w .core) (w .lent) (1 ∷ 128 ∷ []) (k .whole) (λ _. refl)
-    (λ k′ h. rw (read-event, read-code) (read-here (seatOf (w .core) (w .lent)) (faultOf (seatOf (w .core) (w .lent)) Read)))
+    (λ k′ h. rw (command-event 128, orders .read) (read-here (seatOf (w .core) (w .lent)) (faultOf (seatOf (w .core) (w .lent)) Read)))
 
 takes-here : (d n : ℕ) (w : World) → Sound (w .core) (w .lent) → w .core .port .selected ≡ d → AllHere d w (takenTimes n)
 unfolding AllHere after turnOf
@@ -134,7 +123,7 @@ unfolding AllHere after turnOf
 reading-here d n w works e =
     let k = sound (w .core) (w .lent) (works .possible) (works .short) (works .whole) in
     let s = read-stays w k ∙ e in (
-      record { act = Command 128; is = read-event; before = e; after = s },
+      record { act = Command 128; is = command-event 128; before = e; after = s },
       takes-here d (n * 512) (after w (1 ∷ 128 ∷ [])) (step-stays-sound (w .core) (w .lent) (1 ∷ 128 ∷ []) k) s,
     )
 

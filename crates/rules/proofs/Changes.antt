@@ -1,7 +1,7 @@
 -- What an event does to the selected drive's tape, and when.
 use Prim.Native.Nat.{ℕ, _+_, _≤_}
 use mathlib.Core.Path.{_≡_, refl, sym, ap, subst, _∙_}
-use mathlib.Core.Bool.{Bool, true, false, not, _&&_, true≢false, false≢true}
+use mathlib.Core.Bool.{Bool, true, false, not, true≢false, false≢true}
 use mathlib.Core.List.{List}
 use native.Mathlib.Omega.{arith}
 use lib.Dec.{leb}
@@ -12,18 +12,15 @@ use Rattle.tape.specs.Record.{markRecord, blockRecord}
 use Rattle.tape.specs.Recording.{recorded, erased}
 use Rattle.tape.proofs.Recorded.{recorded-before, recording-keeps}
 use Rattle.rules.specs.declared.drive.Drive.{Drive}
-use Rattle.rules.specs.declared.drive.Mode.{Mode}
-use Rattle.rules.specs.declared.drive.Mode.the-variants.{Idle, Writing, Reading}
+use Rattle.rules.specs.declared.drive.Mode.the-variants.{Writing}
 use Rattle.rules.specs.declared.drive.Bit.the-variants.{Eom}
 use Rattle.rules.specs.declared.unit.Port.{Port}
 use Rattle.rules.specs.declared.unit.Core.{Core}
-use Rattle.rules.specs.declared.phase.Phase.{Phase}
-use Rattle.rules.specs.declared.phase.Phase.the-variants.{Rest, Taking}
+use Rattle.rules.specs.declared.phase.Phase.the-variants.{Taking}
 use Rattle.rules.specs.declared.event.Act.{Act}
 use Rattle.rules.specs.declared.event.Act.the-variants.{Command, Give, Offline}
 use Rattle.rules.specs.declared.event.Event.{Event}
 use Rattle.rules.specs.declared.event.Event.the-variants.{NoEvent, Reset, Named, Own}
-use Rattle.rules.specs.declared.order.Order.{Order}
 use Rattle.rules.specs.declared.order.Order.the-variants.{Erase, WriteMark}
 use Rattle.rules.specs.declared.order.Fault.{Fault}
 use Rattle.rules.specs.declared.order.Fault.the-variants.{Fine, Illegal, Empty, Plugged, Full}
@@ -33,17 +30,17 @@ use Rattle.rules.specs.Drive.{isWriting, writes, made, stopping}
 use Rattle.rules.specs.Unit.{Lent, Whole, driveAt, tapeAt, atLevel}
 use Rattle.rules.specs.Event.{eventOf}
 use Rattle.rules.specs.Answer.{rowOf}
-use Rattle.rules.specs.Refusal.{modeFits, refusalIn}
-use Rattle.rules.specs.Order.{orderOf}
+use Rattle.rules.specs.Refusal.{refusalIn}
 use Rattle.rules.specs.Effect.{Seat, Acted, leaves, withMark, withBlock, faultOf, commanded}
-use Rattle.rules.specs.Bytes.{stagedByte, roomToWrite, afterBlock, stored, byteGiven}
+use Rattle.rules.specs.Bytes.{stagedByte, roomToWrite, afterBlock, stored}
 use Rattle.rules.specs.Online.{leftAlone, leaving, dropped}
-use Rattle.rules.specs.Step.{Stepped, act, stagedIn, seatOf, effectOf, stepOf}
+use Rattle.rules.specs.Step.{Stepped, act, stagedIn, seatOf, effectOf}
 use Rattle.rules.specs.Promises.Table.{answerTo}
-use Rattle.rules.specs.Promises.Changes.{Accepted, LineFalls, LastByte, markThere, blockThere, Change, unchanged, erasedWhole, markMade, markLeft, blockMade, OneChange, Happens, RecordingHappens, OnlyAcceptedOrders, RecordingCutsOff, BeforeTheHead}
+use Rattle.rules.specs.Promises.Changes.{Accepted, blockThere, Change, unchanged, erasedWhole, markMade, markLeft, blockMade, OneChange, Happens, RecordingHappens, OnlyAcceptedOrders, RecordingCutsOff, BeforeTheHead}
 use Rattle.basis.proofs.Choosing.{picked, passed, both}
 use Rattle.rules.proofs.Places.{put-same, tape-back, choice-holds}
 use Rattle.rules.proofs.Sound.{Sound}
+use Rattle.rules.proofs.Codes.{orders}
 use Rattle.rules.proofs.Acts.{writing-is}
 use Rattle.rules.proofs.Good.{has-cartridge}
 use Rattle.rules.proofs.Leaves
@@ -90,14 +87,6 @@ one-change c l event w =
     (effect-change c l event (eventOf event) refl) refl
 
 -- ---- and where there is that reason, it does happen
-
-order-34 : orderOf 34 ≡ Erase
-unfolding orderOf pick
-order-34 = refl
-
-order-96 : orderOf 96 ≡ WriteMark
-unfolding orderOf pick
-order-96 = refl
 
 -- an order that raises nothing passed the tests
 erased-there : (s : Seat) (f : Fault) → commanded s Erase f .moved .raised ≡ false → commanded s Erase f .tape ≡ erased (s .tape)
@@ -165,10 +154,10 @@ module _ (c : Core) (l : Lent) (event : List ℕ) where
       record {
         erases = λ r.
             subst (λ (x : Act). act (staged x) s x .moved .raised ≡ false → act (staged x) s x .tape ≡ erased (s .tape))
-            (own-is (Command 34) a (sym (r .order) ∙ q)) (rw order-34 (erased-there s (faultOf s Erase))) (silent (r .answer));
+            (own-is (Command 34) a (sym (r .order) ∙ q)) (rw (orders .erase) (erased-there s (faultOf s Erase))) (silent (r .answer));
         marks = λ r.
             subst (λ (x : Act). act (staged x) s x .moved .raised ≡ false → act (staged x) s x .tape ≡ withMark (s .drive) (s .tape))
-            (own-is (Command 96) a (sym (r .order) ∙ q)) (rw order-96 (marked-there s (faultOf s WriteMark))) (silent (r .answer));
+            (own-is (Command 96) a (sym (r .order) ∙ q)) (rw (orders .mark) (marked-there s (faultOf s WriteMark))) (silent (r .answer));
         leavesMark = λ r.
             let w = writing-parts (s .drive) (r .writing) in
             let i = has-cartridge (s .drive .mode) (s .drive .loaded) (s .drive .protected) (k .fit (c .port .selected) .mode) (w .0) in

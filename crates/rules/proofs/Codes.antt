@@ -2,13 +2,13 @@
 use Prim.Native.Nat.{ℕ, _-_, _≤_}
 use mathlib.Core.Path.{_≡_, refl, sym, subst}
 use mathlib.Core.Bool.{Bool, true, false}
-use mathlib.Core.List.{List}
-use lib.Dec.{ltb, leb, eqb}
-use lib.ListN.{length, getD}
+use mathlib.Core.List.{List, [], _∷_}
+use lib.Dec.{leb, eqb}
 use borrow.Author.Tests.{leb-true, eqb-true}
 use Rattle.basis.specs.Choice.{pick}
 use Rattle.rules.specs.declared.order.Order.{Order}
 use Rattle.rules.specs.declared.order.Order.the-variants.{NoOrder, Select, Bot, Erase, Initialize, Write, WriteMark, Read, ReadMark, ReadStatus}
+use Rattle.rules.specs.declared.event.Act.the-variants.{Command}
 use Rattle.rules.specs.declared.event.What.{What}
 use Rattle.rules.specs.declared.event.Event.{Event}
 use Rattle.rules.specs.declared.event.Event.the-variants.{NoEvent, Reset, Named, Own}
@@ -71,6 +71,20 @@ module _ (P : ℕ → Order → Type 0) where
       go false false false false false false false false false false false false e1 e2 e4 e8 e33 e34 e36 e64 e96 e128 e160 e192 =
           none c (record { not1 = e1; not2 = e2; not4 = e4; not8 = e8; not33 = e33; not34 = e34; not36 = e36; not64 = e64; not96 = e96; not128 = e128; not160 = e160; not192 = e192 })
 
+-- The orders that seven of them are.
+pub record Orders : Type 0 where
+  pub bot : orderOf 33 ≡ Bot
+  pub erase : orderOf 34 ≡ Erase
+  pub write : orderOf 64 ≡ Write
+  pub mark : orderOf 96 ≡ WriteMark
+  pub read : orderOf 128 ≡ Read
+  pub pass : orderOf 160 ≡ ReadMark
+  pub status : orderOf 192 ≡ ReadStatus
+
+pub orders : Orders
+unfolding orderOf pick
+orders = record { bot = refl; erase = refl; write = refl; mark = refl; read = refl; pass = refl; status = refl }
+
 -- The code that an order comes by; SELECT names one of four drives.
 abbrev codeFits : ℕ → Order → Bool
 codeFits c NoOrder = true
@@ -103,6 +117,11 @@ mark-code c e = eqb-true c 96 (code-fits c WriteMark e)
 
 pub status-code : (c : ℕ) → orderOf c ≡ ReadStatus → c ≡ 192
 status-code c e = eqb-true c 192 (code-fits c ReadStatus e)
+
+-- A command octet is an order of the host.
+pub command-event : (k : ℕ) → eventOf (1 ∷ k ∷ []) ≡ Own (Command k)
+unfolding eventOf bodiedEvent pick
+command-event k = refl
 
 -- A drive that an event names is one of four.
 abbrev namesReal : Event → Bool

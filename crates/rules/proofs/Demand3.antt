@@ -5,19 +5,16 @@ use mathlib.Core.Bool.{Bool, true, false, not, _&&_, _||_, true≢false, false�
 use mathlib.Core.List.{List, [], _∷_, _++_}
 use mathlib.Core.Option.{Option, none, some}
 use lib.Dec.{eqb}
-use lib.ListN.{length, take, replicate, length-replicate}
+use lib.ListN.{take, length-replicate}
 use Rattle.basis.specs.Choice.{pick}
-use Rattle.rules.specs.declared.drive.Drive.{Drive}
 use Rattle.rules.specs.declared.phase.Phase.{Phase}
-use Rattle.rules.specs.declared.phase.Phase.the-variants.{Rest, Taking, Giving, Status}
 use Rattle.rules.specs.declared.unit.Port.{Port}
-use Rattle.rules.specs.declared.unit.Core.{Core}
 use Rattle.rules.specs.declared.answer.Answer.{Answer}
 use Rattle.rules.specs.declared.event.Act.{Act}
 use Rattle.rules.specs.declared.event.Act.the-variants.{Command, Give, Take, Online, Offline}
 use Rattle.rules.specs.declared.event.Event.{Event}
 use Rattle.rules.specs.declared.event.Event.the-variants.{NoEvent, Reset, Named, Own}
-use Rattle.rules.specs.Unit.{Lent, driveAt, tapeAt, freshCore}
+use Rattle.rules.specs.Unit.{driveAt, tapeAt, freshCore}
 use Rattle.rules.specs.Event.{eventOf}
 use Rattle.rules.specs.Refusal.{short, refusalIn}
 use Rattle.rules.specs.Phase.{givenBefore}

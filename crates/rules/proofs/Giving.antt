@@ -1,5 +1,5 @@
 -- 512 bytes given to a drive that writes: what they leave is what the last of them finds staged.
-use Prim.Native.Nat.{ℕ, zero, suc, _+_, _≤_, _<_}
+use Prim.Native.Nat.{ℕ, zero, suc, _+_, _<_}
 use mathlib.Core.Path.{_≡_, refl, sym, ap, subst, _∙_}
 use mathlib.Core.Bool.{Bool, true, false}
 use mathlib.Core.List.{List, [], _∷_, _++_, append-assoc}
@@ -8,17 +8,14 @@ use native.Mathlib.Numerals.{add-one}
 use lib.Dec.{ltb}
 use lib.ListN.{length, set, take, length-set}
 use lib.Seq.{take-all, take-suc-set}
-use borrow.Author.Tests.{lt-ltb, le-leb}
+use borrow.Author.Tests.{lt-ltb}
 use Rattle.basis.specs.Choice.{pick}
-use Rattle.tape.specs.Record.{blockRecord}
-use Rattle.tape.specs.Recording.{recorded}
 use Rattle.rules.specs.declared.drive.Drive.{Drive}
 use Rattle.rules.specs.declared.unit.Port.{Port}
 use Rattle.rules.specs.declared.phase.Phase.{Phase}
 use Rattle.rules.specs.declared.phase.Phase.the-variants.{Rest, Taking}
 use Rattle.rules.specs.declared.event.Act.the-variants.{Give}
 use Rattle.rules.specs.declared.event.Event.the-variants.{Own}
-use Rattle.rules.specs.declared.answer.Answer.the-variants.{Taken, Raised}
 use Rattle.rules.specs.Drive.{writes, made}
 use Rattle.rules.specs.Unit.{atPhase}
 use Rattle.rules.specs.Event.{bodiedEvent, eventOf}
@@ -26,7 +23,7 @@ use Rattle.rules.specs.Refusal.{inStepAt}
 use Rattle.rules.specs.Phase.{givenBefore}
 use Rattle.rules.specs.Effect.{Seat, seat, Acted, leaves, withBlock}
 use Rattle.rules.specs.Bytes.{stagedByte, roomToWrite, afterBlock, stored, byteGiven}
-use Rattle.rules.specs.Run.{World, after, run, turnOf, turns, givenEach}
+use Rattle.rules.specs.Run.{World, after, run, turns, givenEach}
 use Rattle.rules.specs.Promises.Strike.{AllTaken}
 use Rattle.rules.proofs.Places.{choice-holds}
 use Rattle.rules.proofs.Seated.{Sits, left, Moves, sits-step}

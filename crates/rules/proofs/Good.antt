@@ -1,7 +1,7 @@
 -- Every leaf of an act leaves a possible record, a tape of the same length, and a protected tape as it was.
 use Prim.Native.Nat.{ℕ, _+_, _-_, _≤_, zero-le}
 use mathlib.Core.Path.{_≡_, refl, sym, ap, _∙_}
-use mathlib.Core.Bool.{Bool, true, false, not, _&&_, true≢false}
+use mathlib.Core.Bool.{Bool, true, false, not, true≢false}
 use mathlib.Core.List.{List}
 use native.Mathlib.Omega.{arith}
 use lib.Dec.{leb}
@@ -25,15 +25,14 @@ use Rattle.rules.specs.declared.drive.Mode.{Mode}
 use Rattle.rules.specs.declared.drive.Mode.the-variants.{Idle, Writing, Reading}
 use Rattle.rules.specs.declared.drive.Bit.{Bit}
 use Rattle.rules.specs.declared.drive.Bit.the-variants.{Eom, Ude, Fil, Ndt}
-use Rattle.rules.specs.declared.phase.Phase.{Phase}
 use Rattle.rules.specs.declared.phase.Phase.the-variants.{Rest, Taking, Giving, Status}
 use Rattle.rules.specs.declared.unit.Port.{Port}
 use Rattle.rules.specs.declared.event.Act.{Act}
-use Rattle.rules.specs.Drive.{isWriting, isReading, stopping, inMode, made, passedTo, setHead}
+use Rattle.rules.specs.Drive.{stopping, inMode, made, passedTo, setHead}
 use Rattle.rules.specs.Unit.{atPhase}
 use Rattle.rules.specs.Refusal.{modeFits, possiblePhase}
 use Rattle.rules.specs.Edge.{halted, edged, checked, standing}
-use Rattle.rules.specs.Effect.{Seat, Acted, leaves, resting}
+use Rattle.rules.specs.Effect.{Seat, Acted, leaves}
 use Rattle.rules.specs.Bytes.{afterOctet}
 use Rattle.basis.proofs.Choosing.{both, join, not-not}
 use Rattle.rules.proofs.Sound.{Fit, SoundSeat, idle-fits}

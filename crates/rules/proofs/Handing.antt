@@ -1,13 +1,13 @@
 -- 512 bytes taken from a drive that reads, with a whole block at its head: they are the block's own, and then comes the edge check.
-use Prim.Native.Nat.{ℕ, zero, suc, _+_, _≤_, _<_}
+use Prim.Native.Nat.{ℕ, zero, suc, _+_, _<_}
 use mathlib.Core.Path.{_≡_, refl, sym, ap, subst, _∙_}
-use mathlib.Core.Bool.{Bool, true, false}
+use mathlib.Core.Bool.{true, false}
 use mathlib.Core.List.{List, [], _∷_, _++_}
 use native.Mathlib.Omega.{arith}
 use native.Mathlib.Nat.{add-zero}
 use native.Mathlib.Numerals.{add-one}
 use lib.Dec.{ltb}
-use lib.ListN.{length, getD, take, drop, replicate, take-append-drop}
+use lib.ListN.{length, getD, drop, take-append-drop}
 use lib.Seq.{drop-drop, getD-drop}
 use borrow.Author.Tests.{lt-ltb}
 use Rattle.basis.specs.Choice.{pick}
@@ -21,7 +21,6 @@ use Rattle.rules.specs.declared.phase.Phase.the-variants.{Rest, Giving}
 use Rattle.rules.specs.declared.event.Act.the-variants.{Take}
 use Rattle.rules.specs.declared.event.Event.the-variants.{Own}
 use Rattle.rules.specs.declared.order.Checked.{Checked}
-use Rattle.rules.specs.declared.answer.Answer.the-variants.{Taken, Raised}
 use Rattle.rules.specs.declared.answer.Turn.{Turn}
 use Rattle.rules.specs.Drive.{reads, passedTo}
 use Rattle.rules.specs.Unit.{atPhase}

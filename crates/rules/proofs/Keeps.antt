@@ -1,12 +1,12 @@
 -- Possible stays possible, tapes keep their lengths, and that of a protected or empty drive stays as it was.
 use Prim.Native.Nat.{ℕ, _≤_, zero-le}
-use mathlib.Core.Path.{_≡_, refl, sym, ap, subst, _∙_}
+use mathlib.Core.Path.{_≡_, refl, sym, subst}
 use mathlib.Core.Bool.{Bool, true, false}
 use mathlib.Core.List.{List}
 use native.Mathlib.Omega.{arith}
 use lib.Dec.{eqb}
 use lib.ListN.{length}
-use borrow.Author.Tests.{eqb-true, eqb-false, not-true}
+use borrow.Author.Tests.{eqb-true, eqb-false}
 use Rattle.basis.specs.Choice.{pick}
 use Rattle.rules.specs.declared.drive.Drive.{Drive}
 use Rattle.rules.specs.declared.drive.Mode.{Mode}
@@ -22,13 +22,13 @@ use Rattle.rules.specs.declared.event.Event.{Event}
 use Rattle.rules.specs.declared.event.Event.the-variants.{NoEvent, Reset, Named, Own}
 use Rattle.rules.specs.declared.answer.Answer.the-variants.{Taken}
 use Rattle.rules.specs.Drive.{wasReset}
-use Rattle.rules.specs.Unit.{Lent, driveAt, putDrive, tapeAt, putTape, atPhase, freshCore, resetCore, Whole}
+use Rattle.rules.specs.Unit.{Lent, driveAt, putDrive, tapeAt, putTape, atPhase, resetCore, Whole}
 use Rattle.rules.specs.Event.{eventOf}
 use Rattle.tape.specs.Record.{longest}
 use Rattle.rules.specs.Refusal.{modeFits, possibleDrive, possiblePhase, possible, slotAnswer, refusalIn}
 use Rattle.rules.specs.Effect.{Acted}
-use Rattle.rules.specs.Slot.{befallen, isOut, partDropped, phaseAfter}
-use Rattle.rules.specs.Step.{Stepped, act, stagedIn, seatOf, landed, effectOf, stepOf}
+use Rattle.rules.specs.Slot.{befallen, phaseAfter}
+use Rattle.rules.specs.Step.{act, stagedIn, seatOf, landed, effectOf, stepOf}
 use Rattle.rules.specs.Promises.Possible.{FreshIsPossible, StaysPossible, LengthsStay, StagingStaysWhole}
 use Rattle.rules.specs.Promises.Plug.{ProtectedKeeps, EmptyKeeps}
 use Rattle.rules.proofs.Places.{four, put-same, put-other, put-holds, one-holds, all-hold, Got, same, other, got}

@@ -23,7 +23,7 @@ use Rattle.rules.specs.declared.drive.Bit.the-variants.{Cni, Eom, Ude, F
 use Rattle.rules.specs.declared.phase.Phase.the-variants.{Rest, Taking, Giving}
 use Rattle.rules.specs.declared.event.Act.{Act}
 use Rattle.rules.specs.declared.event.Act.the-variants.{Command, Give, Take, Online, Offline}
-use Rattle.rules.specs.Drive.{withBit, latching, stopping, inMode, made, passedTo, writes}
+use Rattle.rules.specs.Drive.{withBit, inMode, made, passedTo, writes}
 use Rattle.rules.specs.Phase.{atRest}
 use Rattle.rules.specs.Edge.{isBlock, halted, edged, checked, standing}
 use Rattle.rules.specs.Effect.{Seat, Acted, withMark, withBlock}

@@ -31,6 +31,8 @@ pub mod Seated
 pub mod Giving
 pub mod Handing
 pub mod Ways
-pub mod Strike
+pub mod Blocks
+pub mod Struck
+pub mod Handed
 pub mod Returns
 pub mod Among

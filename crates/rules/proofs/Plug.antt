@@ -1,34 +1,23 @@
 -- The rule between the operator and the desk.
-use Prim.Native.Nat.{ℕ, _+_, _≤_}
-use mathlib.Core.Path.{_≡_, refl, sym, ap, subst, _∙_}
-use mathlib.Core.Bool.{Bool, true, false, true≢false, false≢true}
-use mathlib.Core.List.{List}
-use native.Mathlib.Omega.{arith}
+use Prim.Native.Nat.{ℕ}
+use mathlib.Core.Path.{_≡_, refl, sym, _∙_}
+use mathlib.Core.Bool.{true, false, true≢false, false≢true}
 use lib.Dec.{eqb}
-use lib.ListN.{length, take}
 use borrow.Author.Tests.{eq-eqb}
-use Rattle.tape.specs.Record.{markRecord, blockRecord}
-use Rattle.tape.specs.Recording.{recorded}
-use Rattle.tape.proofs.Recorded.{recorded-before, recording-keeps}
-use Rattle.rules.specs.declared.drive.Drive.{Drive}
-use Rattle.rules.specs.declared.unit.Core.{Core}
-use Rattle.rules.specs.declared.event.Act.{Act}
-use Rattle.rules.specs.declared.event.Act.the-variants.{Command}
 use Rattle.rules.specs.declared.event.What.{What}
 use Rattle.rules.specs.declared.event.Event.{Event}
 use Rattle.rules.specs.declared.event.Event.the-variants.{NoEvent, Reset, Named, Own}
 use Rattle.rules.specs.declared.answer.Answer.the-variants.{Taken}
-use Rattle.rules.specs.Unit.{Lent, Whole, driveAt, tapeAt}
+use Rattle.rules.specs.Unit.{driveAt, tapeAt}
 use Rattle.rules.specs.Event.{eventOf}
 use Rattle.rules.specs.Refusal.{refusalIn}
-use Rattle.rules.specs.Slot.{befallen}
-use Rattle.rules.specs.Step.{Stepped, act, stagedIn, seatOf, effectOf, stepOf}
+use Rattle.rules.specs.Step.{effectOf}
 use Rattle.rules.specs.Promises.Plug.{meansDrive, actsOnNoTape, OtherTapesStay, OtherDrivesStay, OnlyActsChangeTapes}
-use Rattle.rules.proofs.Places.{Got, same, other, put-same}
+use Rattle.rules.proofs.Places.{Got, same, other}
 use Rattle.rules.proofs.Sound.{Sound}
 use Rattle.rules.proofs.Codes.{named-real}
 use Rattle.rules.proofs.Leaves
-use Rattle.rules.proofs.StepBy.{step-by, sound-step, staged-sound, own-does}
+use Rattle.rules.proofs.StepBy.{step-by, sound-step}
 use Rattle.rules.proofs.Keeps.{own-tape}
 use Rattle.rules.proofs.Status.{own-drive, named-drive}
 

@@ -5,19 +5,18 @@ use mathlib.Core.Bool.{Bool, true, false, false≢true}
 use mathlib.Core.List.{List}
 use Rattle.basis.specs.Choice.{pick}
 use Rattle.rules.specs.declared.unit.Core.{Core}
-use Rattle.rules.specs.declared.phase.Phase.the-variants.{Giving}
 use Rattle.rules.specs.declared.event.Act.{Act}
 use Rattle.rules.specs.declared.event.Act.the-variants.{Take}
 use Rattle.rules.specs.declared.event.Event.{Event}
 use Rattle.rules.specs.declared.event.Event.the-variants.{NoEvent, Reset, Named, Own}
 use Rattle.rules.specs.declared.answer.Answer.{Answer}
 use Rattle.rules.specs.declared.answer.Answer.the-variants.{Taken, Raised, OutOfStep, WrongSlot, Malformed, Impossible, TooLong}
-use Rattle.rules.specs.Unit.{Lent, Whole}
+use Rattle.rules.specs.Unit.{Lent}
 use Rattle.rules.specs.Event.{eventOf}
 use Rattle.rules.specs.Answer.{rowOf}
 use Rattle.rules.specs.Refusal.{refusalIn}
 use Rattle.rules.specs.Lines.{linesOf, linesDown}
-use Rattle.rules.specs.Step.{Stepped, act, stagedIn, seatOf, done, refused, effectOf, stepOf}
+use Rattle.rules.specs.Step.{Stepped, act, stagedIn, seatOf, done, refused, effectOf}
 use Rattle.rules.specs.Promises.Refused.{AsFound, RefusedKeeps, LinesDownAfter5, LinesOfTheRecord, ByteRules, BytesExactly}
 use Rattle.rules.proofs.Sound.{Sound}
 use Rattle.rules.proofs.Leaves
@@ -91,7 +90,7 @@ no-byte c l event s n z r =
       last-comes = λ e h _. absurd (false≢true (sym h ∙ r e));
     }
 
-raised-is : (b : Bool) → pick b Raised Taken ≡ Raised → b ≡ true
+pub raised-is : (b : Bool) → pick b Raised Taken ≡ Raised → b ≡ true
 unfolding pick
 raised-is true h = refl
 raised-is false h = cc

@@ -1,12 +1,11 @@
 -- The way back to where a strike began, and the whole of it: given, recorded, found again, handed out.
-use Prim.Native.Nat.{ℕ, zero, suc, _+_, _≤_}
+use Prim.Native.Nat.{ℕ, zero, suc, _+_}
 use mathlib.Core.Path.{_≡_, refl, sym, ap, subst, _∙_}
-use mathlib.Core.Bool.{Bool, true, false}
+use mathlib.Core.Bool.{true, false}
 use mathlib.Core.List.{List, [], _∷_, _++_}
 use native.Mathlib.Omega.{arith}
 use lib.ListN.{length, replicate}
 use Rattle.basis.specs.Choice.{pick}
-use Rattle.tape.specs.declared.pass.Passed.{Passed}
 use Rattle.tape.specs.declared.pass.Passed.the-variants.{Past}
 use Rattle.tape.specs.Walk.{trail, startOf, pastMarks}
 use Rattle.tape.specs.Recording.{recorded}
@@ -19,17 +18,19 @@ use Rattle.rules.specs.declared.drive.Mode.the-variants.{Idle}
 use Rattle.rules.specs.declared.drive.Bit.the-variants.{Fil}
 use Rattle.rules.specs.declared.unit.Port.{Port}
 use Rattle.rules.specs.declared.phase.Phase.the-variants.{Rest, Status}
-use Rattle.rules.specs.Drive.{setHead, inMode, rewound, stopping, passedTo, cleared}
+use Rattle.rules.specs.Drive.{inMode, rewound, stopping, passedTo, cleared}
 use Rattle.rules.specs.Unit.{atPhase, atLevel, showing}
 use Rattle.rules.specs.Octets.{octetsOf}
 use Rattle.rules.specs.Effect.{Seat, seat}
-use Rattle.rules.specs.Run.{World, after, run, turns}
-use Rattle.rules.specs.Promises.Runs.{command, report, online, offline}
-use Rattle.rules.specs.Promises.Strike.{driveOf, tapeOf, Ready, MayRecord, AllWhole, strike, recording, reading, Back, by-order, by-line, passing, Arrives, WayBack, StrikeComesBack}
+use Rattle.rules.specs.Run.{World, after, run}
+use Rattle.rules.specs.Promises.Runs.{command, report, online}
+use Rattle.rules.specs.Promises.Strike.{driveOf, tapeOf, Ready, MayRecord, AllWhole, strike, recording, Back, by-order, by-line, passing, Arrives, WayBack, StrikeComesBack}
 use Rattle.rules.proofs.Ran.{run-append}
 use Rattle.rules.proofs.Seated.{Sits, sits-works}
 use Rattle.rules.proofs.Ways.{Fit, bot-moves, pass-moves, status-moves, fall-moves, rise-moves, octet-next}
-use Rattle.rules.proofs.Strike.{here-at-rest, ready-fit, strike-fits, strike-recorded, strike-handed-out}
+use Rattle.rules.proofs.Blocks.{here-at-rest, ready-fit}
+use Rattle.rules.proofs.Struck.{strike-fits, strike-recorded}
+use Rattle.rules.proofs.Handed.{strike-handed-out}
 
 -- The drive n is selected and takes tape orders, with its head at h and its tape t.
 record Stands (w : World) (n h : ℕ) (t : List ℕ) : Type 0 where

@@ -1,19 +1,18 @@
 -- One event of the host, seen from the seat of the selected drive: what its act leaves is what the next one finds.
-use Prim.Native.Nat.{ℕ, _≤_}
-use mathlib.Core.Path.{_≡_, refl, sym, ap, subst, _∙_}
-use mathlib.Core.Bool.{Bool, true, false}
+use Prim.Native.Nat.{ℕ}
+use mathlib.Core.Path.{_≡_, refl, ap, subst, _∙_}
+use mathlib.Core.Bool.{true}
 use mathlib.Core.List.{List}
 use Rattle.basis.specs.Choice.{pick}
 use Rattle.rules.specs.declared.unit.Core.{Core}
 use Rattle.rules.specs.declared.event.Act.{Act}
-use Rattle.rules.specs.declared.event.Event.{Event}
 use Rattle.rules.specs.declared.event.Event.the-variants.{Own}
-use Rattle.rules.specs.declared.answer.Answer.the-variants.{Taken, Raised, OutOfStep}
+use Rattle.rules.specs.declared.answer.Answer.the-variants.{Taken, Raised}
 use Rattle.rules.specs.Unit.{Lent}
 use Rattle.rules.specs.Event.{eventOf}
-use Rattle.rules.specs.Refusal.{inStepAt, refusalIn}
+use Rattle.rules.specs.Refusal.{inStepAt}
 use Rattle.rules.specs.Effect.{Seat, seat, Acted}
-use Rattle.rules.specs.Step.{Stepped, staged, act, stagedIn, seatOf, owned, settled, stepOf}
+use Rattle.rules.specs.Step.{Stepped, staged, act, stagedIn, seatOf, owned, stepOf}
 use Rattle.rules.specs.Run.{World, after, turnOf}
 use Rattle.rules.specs.Promises.Strike.{Works}
 use Rattle.rules.proofs.Places.{put-same}

@@ -1,7 +1,7 @@
 -- The world as one drive sees it: its own record and tape, the port and the block while it is selected, and nothing else.
 use Prim.Native.Nat.{ℕ, _+_, _-_, _≤_, zero-le}
-use mathlib.Core.Path.{_≡_, refl, sym, ap, ap₂, subst, _∙_}
-use mathlib.Core.Bool.{Bool, true, false, _&&_}
+use mathlib.Core.Path.{_≡_, refl, sym, ap, ap₂, _∙_}
+use mathlib.Core.Bool.{Bool, true, false}
 use mathlib.Core.List.{List, [], _++_}
 use native.Mathlib.Omega.{arith}
 use lib.Dec.{leb, eqb}
@@ -17,7 +17,7 @@ use Rattle.rules.specs.declared.phase.Phase.the-variants.{Rest, Taking, 
 use Rattle.rules.specs.declared.unit.Port.{Port}
 use Rattle.rules.specs.declared.unit.Core.{Core}
 use Rattle.rules.specs.Drive.{drive, noBits, noErrors, noUnderruns}
-use Rattle.rules.specs.Unit.{Lent, lent, driveAt, putDrive, tapeAt, putTape}
+use Rattle.rules.specs.Unit.{lent, driveAt, putDrive, tapeAt, putTape}
 use Rattle.tape.specs.Record.{longest}
 use Rattle.rules.specs.Refusal.{possiblePhase}
 use Rattle.rules.specs.Phase.{givenBefore}

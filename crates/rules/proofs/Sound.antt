@@ -1,7 +1,7 @@
 -- A core and tapes that answers 5 and 6 do not refuse.
-use Prim.Native.Nat.{ℕ, _≤_, zero-le}
+use Prim.Native.Nat.{ℕ, _≤_}
 use mathlib.Core.Path.{_≡_, refl}
-use mathlib.Core.Bool.{Bool, true, false, _&&_}
+use mathlib.Core.Bool.{Bool, true, false}
 use mathlib.Core.List.{List}
 use lib.Dec.{leb}
 use lib.ListN.{length}
@@ -10,12 +10,11 @@ use Rattle.rules.specs.declared.drive.Drive.{Drive}
 use Rattle.rules.specs.declared.drive.Mode.{Mode}
 use Rattle.rules.specs.declared.drive.Mode.the-variants.{Idle, Writing, Reading}
 use Rattle.rules.specs.declared.unit.Core.{Core}
-use Rattle.rules.specs.Unit.{Lent, driveAt, tapeAt, freshCore, Whole}
+use Rattle.rules.specs.Unit.{Lent, driveAt, tapeAt, Whole}
 use Rattle.tape.specs.Record.{longest}
 use Rattle.rules.specs.Refusal.{modeFits, possibleDrive, possiblePhase, possible, short}
 use Rattle.rules.specs.Effect.{Seat}
 use Rattle.rules.specs.Step.{seatOf}
-use Rattle.rules.specs.Promises.Possible.{FreshIsPossible}
 use Rattle.basis.proofs.Choosing.{both, join}
 use Rattle.rules.proofs.Places.{one-holds, all-hold}
 

@@ -19,19 +19,19 @@ use Rattle.rules.specs.declared.event.Event.the-variants.{NoEvent, Reset
 use Rattle.rules.specs.declared.answer.Answer.{Answer}
 use Rattle.rules.specs.declared.answer.Answer.the-variants.{Taken, Raised}
 use Rattle.rules.specs.Drive.{highest, counted, wasReset}
-use Rattle.rules.specs.Unit.{Lent, Whole, driveAt, resetCore}
+use Rattle.rules.specs.Unit.{Lent, driveAt, resetCore}
 use Rattle.rules.specs.Event.{eventOf}
 use Rattle.rules.specs.Answer.{rowOf}
 use Rattle.rules.specs.Phase.{atRest}
-use Rattle.rules.specs.Refusal.{inStepAt, refusalIn}
+use Rattle.rules.specs.Refusal.{refusalIn}
 use Rattle.rules.specs.Slot.{befallen, isOut}
-use Rattle.rules.specs.Step.{Stepped, act, stagedIn, seatOf, effectOf, stepOf}
-use Rattle.rules.specs.Promises.Table.{answerTo}
+use Rattle.rules.specs.Step.{act, stagedIn, seatOf, effectOf}
 use Rattle.rules.specs.Promises.Status.{ByStatus, ExceptionFalls, StandsOnOne, RaisedStands, TakenRaisesNone, ReportStays, ClearedOnly}
 use Rattle.rules.proofs.Places.{Got, same, other, got, put-same, one-holds}
 use Rattle.rules.proofs.Sound.{Sound}
 use Rattle.rules.proofs.Codes.{named-real}
 use Rattle.rules.proofs.Leaves
+use Rattle.rules.proofs.Refused.{raised-is, quiet-is}
 use Rattle.rules.proofs.StepBy.{in-step, step-sound, sound-step, own-does}
 
 -- ---- the drive at i after an event that is taken
@@ -121,16 +121,6 @@ exception-falls c l event i r w up =
 
 -- ---- answer 1 and answer 0
 
-raised-is : (b : Bool) → pick b Raised Taken ≡ Raised → b ≡ true
-unfolding pick
-raised-is true h = refl
-raised-is false h = cc
-
-taken-is : (b : Bool) → pick b Raised Taken ≡ Taken → b ≡ false
-unfolding pick
-taken-is true h = cc
-taken-is false h = refl
-
 out-is : (w : What) → isOut w ≡ true → w ≡ Out
 out-is (In p) h = cc
 out-is Out h = refl
@@ -185,9 +175,9 @@ module _ (c : Core) (l : Lent) (event : List ℕ) (i : ℕ) (real : i ≤ 3) whe
   effect-quiet : (e : Event) → eventOf event ≡ e → Sound c l → refusalIn c e ≡ Taken → effectOf c l e .turn .answer ≡ Taken
       → driveAt (effectOf c l e .turn .core) i .exception ≡ true → driveAt c i .exception ≡ true
   effect-quiet NoEvent q k h z u = u
-  effect-quiet Reset q k h z u = let x : true ≡ false = taken-is true z in absurd (true≢false x)
-  effect-quiet (Named j w) q k h z u = named-quiet j w _ (named-drive c l j w i real (named-real event j w q)) (taken-is (isOut w) z) u
-  effect-quiet (Own a) q k h z u = own-quiet a k h _ (own-drive c l a i real k) (taken-is _ z) u
+  effect-quiet Reset q k h z u = let x : true ≡ false = quiet-is true z in absurd (true≢false x)
+  effect-quiet (Named j w) q k h z u = named-quiet j w _ (named-drive c l j w i real (named-real event j w q)) (quiet-is (isOut w) z) u
+  effect-quiet (Own a) q k h z u = own-quiet a k h _ (own-drive c l a i real k) (quiet-is _ z) u
 
 pub taken-raises-none : TakenRaisesNone
 taken-raises-none c l event i r w =

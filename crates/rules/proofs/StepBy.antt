@@ -1,5 +1,5 @@
 -- One event: refused in one of the ways, or taken in a sound world. Every promise of a step goes by these two.
-use Prim.Native.Nat.{ℕ, _≤_}
+use Prim.Native.Nat.{ℕ}
 use mathlib.Core.Path.{_≡_, refl, sym, _∙_}
 use mathlib.Core.Bool.{Bool, true, false, not, false≢true}
 use mathlib.Core.List.{List}
@@ -19,7 +19,6 @@ use Rattle.rules.specs.Unit.{Lent, driveAt, Whole}
 use Rattle.rules.specs.Event.{eventOf}
 use Rattle.rules.specs.Answer.{rowOf}
 use Rattle.rules.specs.Refusal.{possible, short, inStepAt, slotAnswer, refusalIn, refusalBy, refusalOf}
-use Rattle.rules.specs.Effect.{Acted}
 use Rattle.rules.specs.Bytes.{stagedByte}
 use Rattle.rules.specs.Step.{Stepped, act, staged, stagedIn, seatOf, refused, effectOf, settled, stepBy, stepOf}
 use Rattle.rules.proofs.Sound.{Sound, sound, sound-seat, sound-possible, sound-short}

@@ -1,5 +1,5 @@
 -- The table of answers, line by line.
-use Prim.Native.Nat.{ℕ, _≤_}
+use Prim.Native.Nat.{ℕ}
 use mathlib.Core.Path.{_≡_, refl, sym, ap, _∙_}
 use mathlib.Core.Logic.{_↔_}
 use mathlib.Core.Bool.{Bool, true, false, not}
@@ -19,8 +19,8 @@ use Rattle.rules.specs.Event.{eventOf}
 use Rattle.rules.specs.Answer.{rowOf}
 use Rattle.rules.specs.Slot.{isOut}
 use Rattle.rules.specs.Refusal.{possible, short, inStepAt, slotAnswer, refusalIn, refusalBy, refusalOf}
-use Rattle.rules.specs.Step.{Stepped, effectOf, settled, stepBy, stepOf}
-use Rattle.rules.specs.Promises.Table.{impossible, tooLong, malformed, outOfStep, slotFits, wrongSlot, raises, answerTo, Table, AnswersByTheTable, OneOfSeven, NumbersTellApart}
+use Rattle.rules.specs.Step.{effectOf, settled, stepBy, stepOf}
+use Rattle.rules.specs.Promises.Table.{impossible, tooLong, malformed, outOfStep, slotFits, wrongSlot, raises, answerTo, AnswersByTheTable, OneOfSeven, NumbersTellApart}
 
 -- the answer by the six conditions, in the order they are tried
 inOrder : Bool → Bool → Bool → Bool → Bool → Bool → Answer

@@ -2,19 +2,16 @@
 use Prim.Native.Nat.{ℕ}
 use mathlib.Core.Path.{_≡_, refl, ap}
 use mathlib.Core.Bool.{Bool, true, false, not, _&&_, _||_}
-use mathlib.Core.List.{List, [], _∷_, _++_}
+use mathlib.Core.List.{[], _∷_, _++_}
 use lib.ListN.{length}
 use Rattle.basis.specs.Choice.{pick}
-use Rattle.rules.specs.declared.drive.Drive.{Drive}
 use Rattle.rules.specs.declared.drive.Mode.{Mode}
 use Rattle.rules.specs.declared.drive.Mode.the-variants.{Idle, Writing, Reading}
-use Rattle.rules.specs.declared.order.Order.{Order}
 use Rattle.rules.specs.declared.order.Order.the-variants.{NoOrder, ReadStatus}
 use Rattle.rules.specs.declared.order.Needs.{Needs}
-use Rattle.rules.specs.declared.order.Fault.{Fault}
-use Rattle.rules.specs.declared.order.Fault.the-variants.{Fine, Illegal, Empty, Plugged, Full}
+use Rattle.rules.specs.declared.order.Fault.the-variants.{Fine, Full}
 use Rattle.rules.specs.Order.{orderOf, needsOf, inSequence, hasRoom, illegal, firstFault, faultBy}
-use Rattle.rules.specs.Effect.{Seat, faultOf}
+use Rattle.rules.specs.Effect.{faultOf}
 use Rattle.rules.specs.Promises.Orders.{among, selecting, moving, taping, telling, fits3, roomAsked, FirstTestDecides, StatusPasses}
 use Rattle.rules.proofs.Codes.{NoCode, by-code}
 

@@ -1,16 +1,12 @@
 -- The orders of a strike, each from the seat of a drive that may take it, and the line that falls and rises.
-use Prim.Native.Nat.{ℕ, zero, suc, _+_, _≤_}
-use mathlib.Core.Path.{_≡_, refl, sym, ap, subst, _∙_}
-use mathlib.Core.Bool.{Bool, true, false, not, _&&_, _||_}
-use mathlib.Core.List.{List, [], _∷_, _++_}
-use native.Mathlib.Omega.{arith}
-use lib.Dec.{leb, eqb}
-use lib.ListN.{length, replicate}
+use Prim.Native.Nat.{ℕ, _+_, _≤_}
+use mathlib.Core.Path.{_≡_, refl, ap, subst, _∙_}
+use mathlib.Core.Bool.{true, false}
+use mathlib.Core.List.{List, [], _∷_}
+use lib.ListN.{length}
 use borrow.Author.Tests.{le-leb}
 use Rattle.basis.specs.Choice.{pick}
-use Rattle.tape.specs.declared.found.Found.{Found}
 use Rattle.tape.specs.declared.found.Found.the-variants.{Block, Mark}
-use Rattle.tape.specs.declared.pass.Passed.{Passed}
 use Rattle.tape.specs.declared.pass.Passed.the-variants.{Past}
 use Rattle.tape.specs.Record.{foundAt, markRecord}
 use Rattle.tape.specs.Recording.{recorded}
@@ -20,25 +16,24 @@ use Rattle.rules.specs.declared.drive.Mode.{Mode}
 use Rattle.rules.specs.declared.drive.Mode.the-variants.{Idle, Writing, Reading}
 use Rattle.rules.specs.declared.drive.Bit.the-variants.{Fil}
 use Rattle.rules.specs.declared.unit.Port.{Port}
-use Rattle.rules.specs.declared.phase.Phase.{Phase}
 use Rattle.rules.specs.declared.phase.Phase.the-variants.{Rest, Status}
 use Rattle.rules.specs.declared.event.Act.the-variants.{Command, Take, Online, Offline}
 use Rattle.rules.specs.declared.event.Event.the-variants.{Own}
 use Rattle.rules.specs.declared.order.Order.{Order}
 use Rattle.rules.specs.declared.order.Order.the-variants.{Bot, Write, WriteMark, Read, ReadMark, ReadStatus}
-use Rattle.rules.specs.declared.order.Fault.{Fault}
 use Rattle.rules.specs.declared.order.Fault.the-variants.{Fine}
-use Rattle.rules.specs.Drive.{setHead, inMode, rewound, stopping, made, passedTo, cleared}
+use Rattle.rules.specs.Drive.{inMode, rewound, stopping, made, passedTo, cleared}
 use Rattle.rules.specs.Unit.{atPhase, atLevel, showing}
-use Rattle.rules.specs.Event.{bareEvent, bodiedEvent, eventOf}
+use Rattle.rules.specs.Event.{bareEvent, eventOf}
 use Rattle.rules.specs.Order.{orderOf, illegal, faultBy}
-use Rattle.rules.specs.Edge.{checked, standing}
+use Rattle.rules.specs.Edge.{checked}
 use Rattle.rules.specs.Octets.{octetsOf}
-use Rattle.rules.specs.Effect.{Seat, seat, Acted, leaves, ordered, faultOf, commanded}
+use Rattle.rules.specs.Effect.{Seat, seat, Acted, leaves, ordered, faultOf}
 use Rattle.rules.specs.Bytes.{octetTaken, afterOctet}
 use Rattle.rules.specs.Online.{dropped}
 use Rattle.rules.specs.Step.{act}
 use Rattle.rules.specs.Run.{World, after}
+use Rattle.rules.proofs.Codes.{orders, command-event}
 use Rattle.rules.proofs.Tests.{status-passes}
 use Rattle.rules.proofs.Seated.{Sits, Moves, sits-step}
 use Rattle.rules.proofs.Handing.{take-event}
@@ -50,25 +45,9 @@ pub record Fit (p : Port) (d : Drive) (m : Mode) : Type 0 where
   pub calm : d .exception ≡ false
   pub mode : d .mode ≡ m
 
-command-event : (k : ℕ) → eventOf (1 ∷ k ∷ []) ≡ Own (Command k)
-unfolding eventOf bodiedEvent pick
-command-event k = refl
-
 line-events : (eventOf (4 ∷ []) ≡ Own Online) × (eventOf (5 ∷ []) ≡ Own Offline)
 unfolding eventOf bareEvent pick
 line-events = (refl, refl)
-
-record Codes : Type 0 where
-  bot : orderOf 33 ≡ Bot
-  write : orderOf 64 ≡ Write
-  mark : orderOf 96 ≡ WriteMark
-  read : orderOf 128 ≡ Read
-  pass : orderOf 160 ≡ ReadMark
-  status : orderOf 192 ≡ ReadStatus
-
-codes : Codes
-unfolding orderOf pick
-codes = record { bot = refl; write = refl; mark = refl; read = refl; pass = refl; status = refl }
 
 module _ (p : Port) (d : Drive) (t : List ℕ) where
   abbrev here : Seat
@@ -104,19 +83,19 @@ module _ (p : Port) (d : Drive) (t : List ℕ) where
 
   pub bot-moves : (w : World) (g : List ℕ) → Sits w g here → Fit p d Idle
       → Moves w (1 ∷ 33 ∷ []) g (leaves false (atPhase Rest p) (rewound d) t)
-  bot-moves w g k f = order-moves w g 33 Bot k (codes .bot) (bot-fine f) refl
+  bot-moves w g k f = order-moves w g 33 Bot k (orders .bot) (bot-fine f) refl
 
   pub write-moves : (w : World) (g : List ℕ) → Sits w g here → Fit p d Idle → d .protected ≡ false → d .head + 1541 ≤ length t
       → Moves w (1 ∷ 64 ∷ []) g (leaves false (atPhase Rest p) (inMode Writing d) t)
-  write-moves w g k f o r = order-moves w g 64 Write k (codes .write) (write-fine f o r) refl
+  write-moves w g k f o r = order-moves w g 64 Write k (orders .write) (write-fine f o r) refl
 
   pub mark-moves : (w : World) (g : List ℕ) → Sits w g here → Fit p d Writing → d .protected ≡ false → d .head + 1 ≤ length t
       → Moves w (1 ∷ 96 ∷ []) g (leaves false (atPhase Rest p) (inMode Idle (made (d .head + 1) d)) (recorded t (d .head) markRecord))
-  mark-moves w g k f o r = order-moves w g 96 WriteMark k (codes .mark) (mark-fine f o r) refl
+  mark-moves w g k f o r = order-moves w g 96 WriteMark k (orders .mark) (mark-fine f o r) refl
 
   read-moves : (w : World) (g : List ℕ) → Sits w g here → Fit p d Idle
       → Moves w (1 ∷ 128 ∷ []) g (leaves (checked t (inMode Reading d) .raised) (atPhase Rest p) (checked t (inMode Reading d) .drive) t)
-  read-moves w g k f = order-moves w g 128 Read k (codes .read) (read-fine f) refl
+  read-moves w g k f = order-moves w g 128 Read k (orders .read) (read-fine f) refl
 
   pub read-at-block : (w : World) (g : List ℕ) → Sits w g here → Fit p d Idle → foundAt t (d .head) ≡ Block
       → Moves w (1 ∷ 128 ∷ []) g (leaves false (atPhase Rest p) (inMode Reading d) t)
@@ -130,11 +109,11 @@ module _ (p : Port) (d : Drive) (t : List ℕ) where
 
   pub pass-moves : (w : World) (g : List ℕ) (at : ℕ) → Sits w g here → Fit p d Idle → passed t (d .head) ≡ Past at
       → Moves w (1 ∷ 160 ∷ []) g (leaves true (atPhase Rest p) (stopping Fil (passedTo at d)) t)
-  pass-moves w g at k f e = rw e at (order-moves w g 160 ReadMark k (codes .pass) (pass-fine f) refl)
+  pass-moves w g at k f e = rw e at (order-moves w g 160 ReadMark k (orders .pass) (pass-fine f) refl)
 
   pub status-moves : (w : World) (g : List ℕ) → Sits w g here
       → Moves w (1 ∷ 192 ∷ []) g (leaves false (showing (octetsOf d) (atPhase Rest p)) (cleared d) t)
-  status-moves w g k = order-moves w g 192 ReadStatus k (codes .status) (status-passes here) refl
+  status-moves w g k = order-moves w g 192 ReadStatus k (orders .status) (status-passes here) refl
 
   -- the line falls with the drive Idle, and rises
   pub fall-moves : (w : World) (g : List ℕ) → Sits w g here → Fit p d Idle

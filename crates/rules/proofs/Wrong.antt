@@ -1,26 +1,21 @@
 -- Easy to get wrong: the laws, from the promises and from what the events do.
-use Prim.Native.Nat.{ℕ, _+_, _≤_, _/_, _%_}
+use Prim.Native.Nat.{ℕ, _+_, _≤_}
 use mathlib.Core.Path.{_≡_, refl, sym, ap, subst, _∙_}
-use mathlib.Core.Bool.{Bool, true, false, not, _||_, true≢false, false≢true}
+use mathlib.Core.Bool.{Bool, true, false, true≢false}
 use mathlib.Core.List.{List, [], _∷_}
-use native.Mathlib.Omega.{arith}
-use lib.Dec.{eqb}
-use lib.ListN.{length, set}
+use lib.ListN.{set}
 use Rattle.basis.specs.Choice.{pick}
 use Rattle.tape.specs.Record.{markRecord}
 use Rattle.tape.specs.Recording.{recorded}
 use Rattle.rules.specs.declared.drive.Drive.{Drive}
-use Rattle.rules.specs.declared.drive.Mode.{Mode}
-use Rattle.rules.specs.declared.drive.Mode.the-variants.{Idle, Writing, Reading}
+use Rattle.rules.specs.declared.drive.Mode.the-variants.{Idle}
 use Rattle.rules.specs.declared.unit.Core.{Core}
-use Rattle.rules.specs.declared.phase.Phase.{Phase}
-use Rattle.rules.specs.declared.phase.Phase.the-variants.{Rest, Taking}
-use Rattle.rules.specs.declared.event.Act.{Act}
+use Rattle.rules.specs.declared.phase.Phase.the-variants.{Taking}
 use Rattle.rules.specs.declared.event.Act.the-variants.{Command, Give, Offline}
 use Rattle.rules.specs.declared.event.What.{What}
 use Rattle.rules.specs.declared.event.What.the-variants.{Out, Error, Underrun}
 use Rattle.rules.specs.declared.event.Event.{Event}
-use Rattle.rules.specs.declared.event.Event.the-variants.{Reset, Named, Own}
+use Rattle.rules.specs.declared.event.Event.the-variants.{Named, Own}
 use Rattle.rules.specs.declared.order.Order.{Order}
 use Rattle.rules.specs.declared.order.Order.the-variants.{WriteMark}
 use Rattle.rules.specs.declared.order.Fault.{Fault}
@@ -28,20 +23,18 @@ use Rattle.rules.specs.declared.order.Fault.the-variants.{Fine, Illegal,
 use Rattle.rules.specs.declared.answer.Answer.{Answer}
 use Rattle.rules.specs.declared.answer.Answer.the-variants.{Taken, Raised}
 use Rattle.rules.specs.Drive.{counted}
-use Rattle.rules.specs.Unit.{Lent, Whole, oneOf, driveAt, tapeAt}
+use Rattle.rules.specs.Unit.{Lent, Whole, driveAt, tapeAt}
 use Rattle.rules.specs.Event.{eventOf}
 use Rattle.rules.specs.Answer.{rowOf}
 use Rattle.rules.specs.Refusal.{refusalIn}
-use Rattle.rules.specs.Order.{orderOf}
 use Rattle.rules.specs.Octets.{cni, withTop, bit, octet0}
 use Rattle.rules.specs.Effect.{Seat, Acted, faultOf, commanded}
-use Rattle.rules.specs.Bytes.{stagedByte, byteGiven}
-use Rattle.rules.specs.Slot.{befallen}
-use Rattle.rules.specs.Step.{Stepped, act, stagedIn, seatOf, landed, effectOf, stepOf}
+use Rattle.rules.specs.Bytes.{stagedByte}
+use Rattle.rules.specs.Step.{Stepped, seatOf, landed, effectOf, stepOf}
 use Rattle.rules.specs.Run.{World, after, run, turnOf}
-use Rattle.rules.specs.Promises.Status.{ByStatus}
-use Rattle.rules.specs.Promises.Wrong.{Shows, Unread, CniStillShows, CountWaits, errorsOf, underrunsOf, UnderrunWaits, ErrorWaits, PlacedFirst, FirstByteFirst, OfflineRewindsNoOther, OneMarkOnly}
+use Rattle.rules.specs.Promises.Wrong.{Shows, Unread, CniStillShows, CountWaits, errorsOf, underrunsOf, UnderrunWaits, ErrorWaits, FirstByteFirst, OfflineRewindsNoOther, OneMarkOnly}
 use Rattle.rules.proofs.Places.{put-same}
+use Rattle.rules.proofs.Codes.{orders}
 use Rattle.rules.proofs.Acts
 use Rattle.rules.proofs.Sound.{Sound}
 use Rattle.rules.proofs.StepBy.{step-by, step-sound, own-does}
@@ -139,10 +132,6 @@ offline-rewinds-no-other w i r k e q n = other-drives-stay (w .core) (w .lent) e
 
 -- ---- one mark
 
-mark-code : orderOf 96 ≡ WriteMark
-unfolding orderOf pick
-mark-code = refl
-
 -- after a WRITE FILE MARK that is taken the mark stands and the drive is Idle
 record Marked (c : Core) (l : Lent) (s : Stepped) : Type 0 where
   tape : tapeAt (s .lent) (c .port .selected) ≡ recorded (tapeAt l (c .port .selected)) (driveAt c (c .port .selected) .head) markRecord
@@ -162,7 +151,7 @@ marks : (c : Core) (l : Lent) → effectOf c l (Own (Command 96)) .turn .answer 
 marks c l =
     subst (λ (o : Order). landed c l (commanded (seatOf c l) o (faultOf (seatOf c l) o)) .turn .answer ≡ Taken
     → Marked c l (landed c l (commanded (seatOf c l) o (faultOf (seatOf c l) o))))
-    (sym mark-code) (landed-marks c l (faultOf (seatOf c l) WriteMark))
+    (sym (orders .mark)) (landed-marks c l (faultOf (seatOf c l) WriteMark))
 
 -- an Idle drive records nothing when ONLINE drops
 idle-keeps : (g : List ℕ) (s : Seat) (m : Acted) → Acts.Does g s Offline m → s .drive .mode ≡ Idle → m .tape ≡ s .tape

@@ -7,10 +7,10 @@ use native.Mathlib.Nat.{zero-add, suc-add, add-zero}
 use lib.ListN.{length, getD, take, drop, length-append, length-take, length-drop}
 use lib.Seq.{take-at, drop-at, take-nil, take-take, take-add, drop-drop, getD-take, getD-drop, drop-cons, length-take-le}
 use Rattle.tape.specs.declared.found.Found.{Found}
-use Rattle.tape.specs.declared.found.Found.the-variants.{Block, Mark, Stop}
+use Rattle.tape.specs.declared.found.Found.the-variants.{Block, Mark}
 use Rattle.tape.specs.declared.pass.Passed.the-variants.{Past}
 use Rattle.tape.specs.Record.{markRecord, blockRecord, foundAt}
-use Rattle.tape.specs.Recording.{ended, putIn, recorded}
+use Rattle.tape.specs.Recording.{ended, recorded}
 use Rattle.tape.specs.Walk.{Trail, block, mark, startOf, trail, pastMarks}
 use Rattle.tape.specs.Laws.{Stands, whole-block, one-mark, Walks, over-block, over-mark, at-stop}
 use Rattle.tape.specs.Held.{Holds, RecordedHolds, RecordedOn, HoldsBefore, HoldsParts, HeldByte, HeldBlock, HeldMark, bodyAt, FoundHolds, PastSame, Next, PastNext}

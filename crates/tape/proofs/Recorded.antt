@@ -9,11 +9,11 @@ use lib.ListN.{length, getD, take, drop, length-append, length-drop, List·getD-
 use lib.Seq.{take-at, drop-at, drop-drop, getD-drop, getD-append-add, drop-append-add, length-take-le}
 use lib.Dec.{leb}
 use borrow.Author.Tests.{leb-true, leb-false}
-use Rattle.tape.specs.declared.found.Found.the-variants.{Block, Mark, Stop}
+use Rattle.tape.specs.declared.found.Found.the-variants.{Stop}
 use Rattle.tape.specs.declared.found.Why.the-variants.{End}
 use Rattle.tape.specs.Record.{foundAt, markRecord, blockRecord}
 use Rattle.tape.specs.Recording.{ended, putIn, recorded}
-use Rattle.tape.specs.Laws.{whole-block, one-mark, end-kind, tape-end, Kept, RecordingKeeps, MarkFound, BlockFound}
+use Rattle.tape.specs.Laws.{whole-block, one-mark, end-kind, tape-end, RecordingKeeps, MarkFound, BlockFound}
 use Rattle.tape.proofs.Standing.{case-found}
 
 ended-length : (l : List ℕ) → length (ended l) ≡ length l

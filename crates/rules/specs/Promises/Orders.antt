@@ -16,7 +16,7 @@ use Rattle.rules.specs.declared.order.Order.the-variants.{ReadStatus}
 use Rattle.rules.specs.declared.order.Fault.{Fault}
 use Rattle.rules.specs.declared.order.Fault.the-variants.{Fine, Illegal, Empty, Plugged, Full}
 use Rattle.rules.specs.declared.answer.Answer.the-variants.{Raised}
-use Rattle.rules.specs.Unit.{Lent, Whole, driveAt, tapeAt}
+use Rattle.rules.specs.Unit.{Lent, Whole, driveAt}
 use Rattle.rules.specs.Event.{eventOf}
 use Rattle.rules.specs.Answer.{rowOf}
 use Rattle.rules.specs.Order.{orderOf, hasRoom}

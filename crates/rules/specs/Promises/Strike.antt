@@ -1,9 +1,9 @@
 -- The strike comes back: what a rig gave is what it is handed out, byte for byte, and what was recorded before is handed out as ever.
 use Prim.Native.Nat.{ℕ, zero, suc, _+_, _*_, _≤_}
 use mathlib.Core.Path.{_≡_}
-use mathlib.Core.Bool.{Bool, true, false}
+use mathlib.Core.Bool.{true, false}
 use mathlib.Core.List.{List, [], _∷_, _++_}
-use mathlib.Core.Option.{Option, none, some}
+use mathlib.Core.Option.{none, some}
 use lib.ListN.{length}
 use Rattle.tape.specs.declared.found.Found.the-variants.{Block}
 use Rattle.tape.specs.declared.pass.Passed.the-variants.{Past}

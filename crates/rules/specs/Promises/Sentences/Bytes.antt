@@ -1,6 +1,5 @@
 -- Bytes: given by the host, and taken by it.
 use Prim.Native.Nat.{ℕ, _+_}
-use mathlib.Core.Bool.{true}
 use mathlib.Core.List.{List, [], _∷_, _++_, map}
 use lib.ListN.{replicate}
 use Rattle.rules.specs.declared.drive.Drive.{Drive}
