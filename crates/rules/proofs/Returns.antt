@@ -1,10 +1,11 @@
 -- The way back to where a strike began, and the whole of it: given, recorded, found again, handed out.
-use Prim.Native.Nat.{ℕ, zero, suc, _+_}
+use Prim.Native.Nat.{ℕ, zero, suc, _+_, _≤_}
 use mathlib.Core.Path.{_≡_, refl, sym, ap, subst, _∙_}
 use mathlib.Core.Bool.{true, false}
 use mathlib.Core.List.{List, [], _∷_, _++_}
 use native.Mathlib.Omega.{arith}
-use lib.ListN.{length, replicate}
+use lib.ListN.{length, take, replicate}
+use lib.Seq.{take-take}
 use Rattle.basis.specs.Choice.{pick}
 use Rattle.tape.specs.declared.pass.Passed.the-variants.{Past}
 use Rattle.tape.specs.Walk.{trail, startOf, pastMarks}
@@ -24,12 +25,12 @@ use Rattle.rules.specs.Octets.{octetsOf}
 use Rattle.rules.specs.Effect.{Seat, seat}
 use Rattle.rules.specs.Run.{World, after, run}
 use Rattle.rules.specs.Promises.Runs.{command, report, online}
-use Rattle.rules.specs.Promises.Strike.{driveOf, tapeOf, Ready, MayRecord, AllWhole, strike, recording, Back, by-order, by-line, passing, Arrives, WayBack, StrikeComesBack}
+use Rattle.rules.specs.Promises.Strike.{driveOf, tapeOf, Ready, MayRecord, AllWhole, strike, recording, Back, by-order, by-line, passing, Arrives, WayBack, StrikeComesBack, FirstStrikeComesBack}
 use Rattle.rules.proofs.Ran.{run-append}
 use Rattle.rules.proofs.Seated.{Sits, sits-works}
 use Rattle.rules.proofs.Ways.{Fit, bot-moves, pass-moves, status-moves, fall-moves, rise-moves, octet-next}
 use Rattle.rules.proofs.Blocks.{here-at-rest, ready-fit}
-use Rattle.rules.proofs.Struck.{strike-fits, strike-recorded}
+use Rattle.rules.proofs.Struck.{strike-fits, strike-recorded, first-strike-stays}
 use Rattle.rules.proofs.Handed.{strike-handed-out}
 
 -- The drive n is selected and takes tape orders, with its head at h and its tape t.
@@ -161,25 +162,50 @@ recorded-ready w bs a m =
       calm = ap (λ (x : Drive). x .exception) (s .drive) ∙ r .calm;
     }
 
--- the way leads to where the strike began, whose tape holds it
+-- a recording leaves the way to where it began
+same-way : (w : World) (bs : List (List ℕ)) (k h : ℕ) → AllWhole bs → MayRecord w (length bs) → h ≤ driveOf w .head
+    → pastMarks k (trail (tapeOf w) 0) ≡ Past h → pastMarks k (trail (tapeOf (run w (recording bs))) 0) ≡ Past h
+same-way w bs k h a m near e =
+    let t = tapeOf w in
+    let fits = strike-fits w bs a m in
+    let t₁ = recorded t (driveOf w .head) (strike bs) in
+    let size = recorded-length t (strike bs) (driveOf w .head) fits in
+    let before : take h t ≡ take h t₁ =
+    sym (take-take h (driveOf w .head) t near) ∙ ap (take h) (sym (recorded-before t (strike bs) (driveOf w .head) fits))
+    ∙ take-take h (driveOf w .head) t₁ near in
+    ap (λ (x : List ℕ). pastMarks k (trail x 0)) (strike-recorded w bs a m .1 .tape)
+    ∙ past-same t t₁ 0 k h e before (rw size (omega (arith, fits, near)))
+
+-- and leads there
 pub strike-found : (w : World) (bs : List (List ℕ)) (k : ℕ) (back : List (List ℕ)) → AllWhole bs → MayRecord w (length bs)
     → pastMarks k (trail (tapeOf w) 0) ≡ Past (driveOf w .head) → Back back
     → Arrives (run w (recording bs)) (run (run w (recording bs)) (back ++ passing k)) (driveOf w .head)
 strike-found w bs k back a m e b =
-    let t = tapeOf w in
-    let h = driveOf w .head in
-    let t₁ = recorded t h (strike bs) in
-    let fits = strike-fits w bs a m in
-    let there : pastMarks k (trail t₁ 0) ≡ Past h =
-    past-same t t₁ 0 k h e (sym (recorded-before t (strike bs) h fits)) (rw (recorded-length t (strike bs) h fits) (omega (arith, fits))) in
-    way-back (run w (recording bs)) k h back (recorded-ready w bs a m) b
-    (ap (λ (x : List ℕ). pastMarks k (trail x 0)) (strike-recorded w bs a m .1 .tape) ∙ there)
+    way-back (run w (recording bs)) k (driveOf w .head) back (recorded-ready w bs a m) b (same-way w bs k (driveOf w .head) a m (omega arith) e)
+
+-- what was recorded stands where it was
+recorded-there : (w : World) (bs : List (List ℕ)) → AllWhole bs → MayRecord w (length bs)
+    → Holds (tapeOf (run w (recording bs))) (driveOf w .head) (strike bs)
+recorded-there w bs a m =
+    rw (strike-recorded w bs a m .1 .tape) (recorded-holds (tapeOf w) (strike bs) (driveOf w .head) (strike-fits w bs a m))
 
 pub strike-comes-back : StrikeComesBack
 strike-comes-back w bs k back a m e b =
-    let s = strike-recorded w bs a m in
     let w₂ = run (run w (recording bs)) (back ++ passing k) in
     let way = strike-found w bs k back a m e b in
-    let held : Holds (tapeOf w₂) (driveOf w₂ .head) (strike bs) =
-    rw (way .tape, way .head, s .1 .tape) (recorded-holds (tapeOf w) (strike bs) (driveOf w .head) (strike-fits w bs a m)) in
-    (s .0, strike-handed-out w₂ bs a (way .ready) held)
+    let held : Holds (tapeOf w₂) (driveOf w₂ .head) (strike bs) = rw (way .tape, way .head) (recorded-there w bs a m) in
+    (strike-recorded w bs a m .0, strike-handed-out w₂ bs a (way .ready) held)
+
+pub first-strike-comes-back : FirstStrikeComesBack
+first-strike-comes-back w bs cs k back a c m n e b =
+    let h = driveOf w .head in
+    let v = run w (recording bs) in
+    let w₁ = run v (recording cs) in
+    let w₂ = run w₁ (back ++ passing k) in
+    let behind : driveOf v .head ≡ h + length (strike bs) = ap (λ (d : Drive). d .head) (strike-recorded w bs a m .1 .drive) in
+    let way =
+    way-back w₁ k h back (recorded-ready v cs c n) b
+    (same-way v cs k h c n (omega (arith, behind)) (same-way w bs k h a m (omega arith) e)) in
+    let there = first-strike-stays v bs cs h c n (omega (arith, behind)) (recorded-there w bs a m) in
+    let held : Holds (tapeOf w₂) (driveOf w₂ .head) (strike bs) = rw (way .tape, way .head) there in
+    strike-handed-out w₂ bs a (way .ready) held

@@ -1,5 +1,5 @@
 -- EXCEPTION, latched bits and counts over one event.
-use Prim.Native.Nat.{ℕ, _+_, _≤_}
+use Prim.Native.Nat.{ℕ, _+_, _*_, _/_, _%_, _≤_}
 use mathlib.Core.Path.{_≡_, refl, sym, ap, subst, _∙_}
 use mathlib.Core.Bool.{Bool, true, false, true≢false, false≢true}
 use mathlib.Core.List.{List}
@@ -25,8 +25,9 @@ use Rattle.rules.specs.Answer.{rowOf}
 use Rattle.rules.specs.Phase.{atRest}
 use Rattle.rules.specs.Refusal.{refusalIn}
 use Rattle.rules.specs.Slot.{befallen, isOut}
+use Rattle.rules.specs.Octets.{octetsOf}
 use Rattle.rules.specs.Step.{act, stagedIn, seatOf, effectOf}
-use Rattle.rules.specs.Promises.Status.{ByStatus, ExceptionFalls, StandsOnOne, RaisedStands, TakenRaisesNone, ReportStays, ClearedOnly}
+use Rattle.rules.specs.Promises.Status.{ByStatus, ExceptionFalls, StandsOnOne, RaisedStands, TakenRaisesNone, ReportStays, ClearedOnly, ReportTellsCounts}
 use Rattle.rules.proofs.Places.{Got, same, other, got, put-same, one-holds}
 use Rattle.rules.proofs.Sound.{Sound}
 use Rattle.rules.proofs.Codes.{named-real}
@@ -229,3 +230,12 @@ pub cleared-only : ClearedOnly
 cleared-only c l event i r w n s =
     sound-step (λ x. ReportStays (driveAt c i) (driveAt (x .turn .core) i)) c l event w (λ a. as-was c l event i r n s)
     (effect-report c l event i r n s (eventOf event) refl)
+
+-- ---- the report
+
+halves : (n : ℕ) → 256 * (n / 256) + n % 256 ≡ n
+halves n = omega arith
+
+pub report-tells-counts : ReportTellsCounts
+unfolding octetsOf
+report-tells-counts d = record { errors = halves (d .errors .0); underruns = halves (d .underruns .0) }

@@ -12,11 +12,6 @@ use Rattle.rules.specs.declared.drive.Mode.the-variants.{Idle, Writing, 
 use Rattle.rules.specs.declared.drive.Bit.{Bit}
 use Rattle.rules.specs.declared.drive.Bit.the-variants.{Cni, Eom, Ude, Fil, Ill, Ndt, Por}
 
-abbrev pub isIdle : Mode → Bool
-isIdle Idle = true
-isIdle Writing = false
-isIdle Reading = false
-
 abbrev pub isWriting : Mode → Bool
 isWriting Idle = false
 isWriting Writing = true

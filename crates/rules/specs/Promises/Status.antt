@@ -1,8 +1,9 @@
 -- Demand 2: what raises a drive's EXCEPTION, and what alone takes it, the latched bits and the counts away.
-use Prim.Native.Nat.{ℕ, _≤_}
+use Prim.Native.Nat.{ℕ, _+_, _*_, _≤_}
 use mathlib.Core.Path.{_≡_}
 use mathlib.Core.Bool.{Bool, true, false}
 use mathlib.Core.List.{List}
+use lib.ListN.{getD}
 use Rattle.rules.specs.declared.drive.Drive.{Drive}
 use Rattle.rules.specs.declared.drive.Latched.{Latched}
 use Rattle.rules.specs.declared.unit.Core.{Core}
@@ -12,6 +13,7 @@ use Rattle.rules.specs.declared.answer.Answer.the-variants.{Taken, Raise
 use Rattle.rules.specs.Unit.{Lent, Whole, driveAt}
 use Rattle.rules.specs.Event.{eventOf}
 use Rattle.rules.specs.Phase.{atRest}
+use Rattle.rules.specs.Octets.{octetsOf}
 use Rattle.rules.specs.Step.{stepOf}
 use Rattle.rules.specs.Promises.Table.{answerTo}
 
@@ -65,3 +67,11 @@ abbrev pub ClearedOnly : Type 0
 ClearedOnly =
     (c : Core) (l : Lent) (event : List ℕ) (i : ℕ) → i ≤ 3 → Whole l
     → (eventOf event ≡ Reset → ⊥) → (ByStatus c event i → ⊥) → ReportStays (driveAt c i) (driveAfter c l event i)
+
+-- A report tells both counters as numbers, each by 256 times its high octet and its low one: octets 2 and 3 the errors, 4 and 5 the underruns.
+pub record CountsTold (d : Drive) (octets : List ℕ) : Type 0 where
+  pub errors : 256 * getD octets 2 0 + getD octets 3 0 ≡ d .errors .0
+  pub underruns : 256 * getD octets 4 0 + getD octets 5 0 ≡ d .underruns .0
+
+abbrev pub ReportTellsCounts : Type 0
+ReportTellsCounts = (d : Drive) → CountsTold d (octetsOf d)

@@ -168,11 +168,20 @@ StrikeComesBack =
     let w₂ = run w₁ (back ++ passing k) in
     AllTaken (turns w (recording bs)) × HandedOut w₂ (run w₂ (reading (length bs))) bs (turns w₂ (reading (length bs)))
 
--- It stays so when another strike is recorded behind it.
+-- Another strike recorded behind it leaves it where it stands,
 abbrev pub FirstStrikeStays : Type 0
 FirstStrikeStays =
     (w : World) (bs cs : List (List ℕ)) (k : ℕ) → AllWhole cs → MayRecord w (length cs) → k + length (strike bs) ≤ driveOf w .head
     → Holds (tapeOf w) k (strike bs) → Holds (tapeOf (run w (recording cs))) k (strike bs)
+
+-- and it is handed out as before.
+abbrev pub FirstStrikeComesBack : Type 0
+FirstStrikeComesBack =
+    (w : World) (bs cs : List (List ℕ)) (k : ℕ) (back : List (List ℕ)) → AllWhole bs → AllWhole cs → MayRecord w (length bs)
+    → MayRecord (run w (recording bs)) (length cs) → pastMarks k (trail (tapeOf w) 0) ≡ Past (driveOf w .head) → Back back
+    → let w₁ = run (run w (recording bs)) (recording cs) in
+    let w₂ = run w₁ (back ++ passing k) in
+    HandedOut w₂ (run w₂ (reading (length bs))) bs (turns w₂ (reading (length bs)))
 
 -- ---- Whatever is done on the other three
 
