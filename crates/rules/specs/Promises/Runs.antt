@@ -134,8 +134,6 @@ runsToCheck =
     -- a command in the middle of a block, and after it
     from 2000 0 (writing ++ (giving 511 7 ++ command 192))
     ∷ from 2054 0 (writing ++ (giving 512 7 ++ command 192))
-    -- A later block is recorded like the first.
-    ∷ from 3000 0 (writing ++ (giving 512 7 ++ giving 512 9))
     -- a part block ended by RESET, and WRITE ended by the line
     ∷ from 2000 0 (writing ++ (giving 3 7 ++ reset))
     ∷ from 2000 0 (writing ++ offline)
@@ -156,7 +154,6 @@ abbrev pub endings : List Ending
 endings =
     ends 2 firstReport 0 0 (replicate 2000 0) []
     ∷ ends 0 (0 ∷ 0 ∷ 0 ∷ 0 ∷ 0 ∷ 0 ∷ []) 513 0 (1 ∷ (replicate 512 7 ++ replicate 1541 0)) []
-    ∷ ends 0 firstReport 1026 0 (1 ∷ (replicate 512 7 ++ (1 ∷ (replicate 512 9 ++ replicate 1974 0)))) []
     ∷ ends 1 firstReport 0 0 (replicate 2000 0) []
     ∷ ends 0 firstReport 0 0 (2 ∷ replicate 1999 0) []
     ∷ ends 0 (192 ∷ 136 ∷ 0 ∷ 0 ∷ 0 ∷ 0 ∷ []) 0 0 (replicate 16 0) []

@@ -54,7 +54,7 @@ counters =
 abbrev pub wholeReport : List Case
 wholeReport =
     rows (scene up Rest (full plugged 0 Reading true all 258 515) odd)
-    (command 192 ∷ fetch ∷ fetch ∷ (underrun 2) ∷ (error 2) ∷ (error 2) ∷ fetch ∷ fetch ∷ fetch ∷ fetch ∷ command 192 ∷ fetch ∷ [])
+    (command 192 ∷ fetch ∷ fetch ∷ underrun 2 ∷ error 2 ∷ error 2 ∷ fetch ∷ fetch ∷ fetch ∷ fetch ∷ command 192 ∷ fetch ∷ [])
     (says 0 RD
     ∷ hands 0 221 RD
     ∷ hands 0 233 RD
