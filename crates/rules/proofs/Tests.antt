@@ -1,8 +1,9 @@
 -- The tests of an order, by its code.
-use Prim.Native.Nat.{ℕ}
+use Prim.Native.Nat.{ℕ, _+_}
 use mathlib.Core.Path.{_≡_, refl, ap}
 use mathlib.Core.Bool.{Bool, true, false, not, _&&_, _||_}
 use mathlib.Core.List.{[], _∷_, _++_}
+use lib.Dec.{leb, eqb}
 use lib.ListN.{length}
 use Rattle.basis.specs.Choice.{pick}
 use Rattle.rules.specs.declared.drive.Mode.{Mode}
@@ -79,6 +80,16 @@ sequence k n r Idle = refl
 sequence k n r Writing = ap not (r .writing)
 sequence k n r Reading = ap not (r .reading)
 
+-- who asks for no room has it
+room-asked : (k h size : ℕ) → not (hasRoom (roomAsked k) h size) ≡ (among k (64 ∷ 96 ∷ []) && not (leb (h + roomAsked k) size))
+unfolding pick
+room-asked k h size = go (eqb k 64) (eqb k 96)
+  where
+    go : (w m : Bool) → not (hasRoom (pick w 1541 (pick m 1 0)) h size) ≡ ((w || (m || false)) && not (leb (h + pick w 1541 (pick m 1 0)) size))
+    go true m = refl
+    go false true = refl
+    go false false = refl
+
 room-or-none : (r : Bool) → pick r Fine Full ≡ pick (not r) Full Fine
 unfolding pick
 room-or-none true = refl
@@ -97,6 +108,7 @@ first-test-decides s k =
       r .plug,
       r .room,
       room-or-none (hasRoom (roomAsked k) (s .drive .head) (length (s .tape))),
+      room-asked k (s .drive .head) (length (s .tape)),
     )
 
 -- ---- READ STATUS

@@ -3,9 +3,9 @@ use Prim.Native.Nat.{ℕ, _+_, _≤_}
 use mathlib.Core.Path.{_≡_}
 use mathlib.Core.Bool.{true, false}
 use mathlib.Core.List.{List}
-use lib.ListN.{length, set, take}
+use lib.ListN.{length, set, take, replicate}
 use Rattle.tape.specs.Record.{markSize, blockSize, markRecord, blockRecord}
-use Rattle.tape.specs.Recording.{recorded, erased}
+use Rattle.tape.specs.Recording.{recorded}
 use Rattle.tape.specs.Laws.{Kept}
 use Rattle.rules.specs.declared.unit.Core.{Core}
 use Rattle.rules.specs.declared.phase.Phase.the-variants.{Taking}
@@ -16,7 +16,6 @@ use Rattle.rules.specs.Drive.{writes}
 use Rattle.rules.specs.Unit.{Lent, Whole, driveAt, tapeAt}
 use Rattle.rules.specs.Event.{eventOf}
 use Rattle.rules.specs.Answer.{rowOf}
-use Rattle.rules.specs.Order.{writeRoom}
 use Rattle.rules.specs.Step.{stepOf}
 use Rattle.rules.specs.Promises.Table.{answerTo}
 use Rattle.rules.specs.Promises.Plug.{tapeAfter}
@@ -38,9 +37,12 @@ pub record LastByte (c : Core) (l : Lent) (event : List ℕ) (b : ℕ) : Type 0 
   pub byte : eventOf event ≡ Own (Give b)
   pub place : c .port .phase ≡ Taking 511
   pub taken : rowOf (answerTo c l event) .refuses ≡ false
-  pub room : driveAt c (c .port .selected) .head + writeRoom ≤ length (tapeAt l (c .port .selected))
+  pub room : driveAt c (c .port .selected) .head + 1541 ≤ length (tapeAt l (c .port .selected))
 
--- The tape with a mark at the head; and with a block, whose last byte is b and whose others are the 511 given before.
+-- The tape with every byte 0; with a mark at the head; and with a block, whose last byte is b and whose others are the 511 given before.
+abbrev pub allZero : Core → Lent → List ℕ
+allZero c l = replicate (length (tapeAt l (c .port .selected))) 0
+
 abbrev pub markThere : Core → Lent → List ℕ
 markThere c l = recorded (tapeAt l (c .port .selected)) (driveAt c (c .port .selected) .head) markRecord
 
@@ -50,10 +52,10 @@ blockThere c l b = recorded (tapeAt l (c .port .selected)) (driveAt c (c .port .
 -- Where its tape is changed, it is so and for that reason; and there was room.
 pub data Change (c : Core) (l : Lent) (event : List ℕ) : List ℕ → Type 0 where
   unchanged : Change c l event (tapeAt l (c .port .selected))
-  erasedWhole : Accepted c l event 34 → Change c l event (erased (tapeAt l (c .port .selected)))
-  markMade : Accepted c l event 96 → driveAt c (c .port .selected) .head + markSize ≤ length (tapeAt l (c .port .selected))
+  erasedWhole : Accepted c l event 34 → Change c l event (allZero c l)
+  markMade : Accepted c l event 96 → driveAt c (c .port .selected) .head + 1 ≤ length (tapeAt l (c .port .selected))
       → Change c l event (markThere c l)
-  markLeft : LineFalls c l event → driveAt c (c .port .selected) .head + markSize ≤ length (tapeAt l (c .port .selected))
+  markLeft : LineFalls c l event → driveAt c (c .port .selected) .head + 1 ≤ length (tapeAt l (c .port .selected))
       → Change c l event (markThere c l)
   blockMade : (b : ℕ) → LastByte c l event b → Change c l event (blockThere c l b)
 
@@ -62,7 +64,7 @@ OneChange = (c : Core) (l : Lent) (event : List ℕ) → Whole l → Change c l 
 
 -- And where there is that reason, it is so changed.
 pub record Happens (c : Core) (l : Lent) (event : List ℕ) (t : List ℕ) : Type 0 where
-  pub erases : Accepted c l event 34 → t ≡ erased (tapeAt l (c .port .selected))
+  pub erases : Accepted c l event 34 → t ≡ allZero c l
   pub marks : Accepted c l event 96 → t ≡ markThere c l
   pub leavesMark : LineFalls c l event → t ≡ markThere c l
   pub blocks : (b : ℕ) → LastByte c l event b → t ≡ blockThere c l b

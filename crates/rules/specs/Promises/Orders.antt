@@ -1,9 +1,9 @@
 -- Demand 2: an order is stopped by the first test that fits, it is illegal exactly by the first four, and then changes no tape.
-use Prim.Native.Nat.{ℕ, _≤_}
+use Prim.Native.Nat.{ℕ, _+_, _≤_}
 use mathlib.Core.Path.{_≡_}
 use mathlib.Core.Bool.{Bool, true, false, not, _&&_, _||_}
 use mathlib.Core.List.{List, [], _∷_, _++_}
-use lib.Dec.{eqb}
+use lib.Dec.{leb, eqb}
 use lib.ListN.{length}
 use Rattle.basis.specs.Choice.{pick}
 use Rattle.rules.specs.declared.drive.Drive.{Drive}
@@ -19,7 +19,7 @@ use Rattle.rules.specs.declared.answer.Answer.the-variants.{Raised}
 use Rattle.rules.specs.Unit.{Lent, Whole, driveAt}
 use Rattle.rules.specs.Event.{eventOf}
 use Rattle.rules.specs.Answer.{rowOf}
-use Rattle.rules.specs.Order.{orderOf, hasRoom}
+use Rattle.rules.specs.Order.{orderOf}
 use Rattle.rules.specs.Effect.{Seat, faultOf}
 use Rattle.rules.specs.Step.{Stepped, stepOf}
 
@@ -70,7 +70,7 @@ abbrev pub roomAsked : ℕ → ℕ
 roomAsked k = pick (eqb k 64) 1541 (pick (eqb k 96) 1 0)
 
 abbrev pub fits7 : Drive → ℕ → ℕ → Bool
-fits7 d size k = not (hasRoom (roomAsked k) (d .head) size)
+fits7 d size k = among k (64 ∷ 96 ∷ []) && not (leb (d .head + roomAsked k) size)
 
 -- One of the first four fits; the first of all seven decides.
 abbrev pub firstFour : Bool → Drive → ℕ → Bool

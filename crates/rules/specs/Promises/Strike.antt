@@ -7,7 +7,7 @@ use mathlib.Core.Option.{none, some}
 use lib.ListN.{length}
 use Rattle.tape.specs.declared.found.Found.the-variants.{Block}
 use Rattle.tape.specs.declared.pass.Passed.the-variants.{Past}
-use Rattle.tape.specs.Record.{bodySize, blockSize, markRecord, blockRecord, foundAt}
+use Rattle.tape.specs.Record.{bodySize, markRecord, blockRecord, foundAt}
 use Rattle.tape.specs.Recording.{recorded}
 use Rattle.tape.specs.Walk.{trail, pastMarks}
 use Rattle.tape.specs.Held.{Holds, bodyAt}
@@ -20,7 +20,6 @@ use Rattle.rules.specs.declared.answer.Turn.{Turn}
 use Rattle.rules.specs.Drive.{setHead, stopping, writes, reads}
 use Rattle.rules.specs.Unit.{Whole, driveAt, tapeAt}
 use Rattle.rules.specs.Refusal.{possible, short}
-use Rattle.rules.specs.Order.{writeRoom}
 use Rattle.rules.specs.Run.{World, after, run, turns, givenEach, takenTimes, freshWorld}
 use Rattle.rules.specs.Reach.{realChange, Gave, onlyIf, reached, given}
 use Rattle.rules.specs.Promises.Changes.{Accepted}
@@ -50,11 +49,11 @@ pub record Ready (w : World) : Type 0 where
   pub idle : driveOf w .mode ≡ Idle
   pub calm : driveOf w .exception ≡ false
 
--- Its plug is open, and n blocks leave the room that WRITE asks for.
+-- Its plug is open, and n blocks of 513 bytes leave the 1541 that WRITE asks for.
 pub record MayRecord (w : World) (n : ℕ) : Type 0 where
   pub ready : Ready w
   pub unplugged : driveOf w .protected ≡ false
-  pub room : driveOf w .head + n * blockSize + writeRoom ≤ length (tapeOf w)
+  pub room : driveOf w .head + n * 513 + 1541 ≤ length (tapeOf w)
 
 -- Blocks of 512 bytes; their bytes one after the other; their records, with the mark that closes them.
 abbrev pub AllWhole : List (List ℕ) → Type 0
@@ -105,7 +104,7 @@ passing (suc k) = command 160 ++ (report ++ passing k)
 abbrev pub BlockGiven : Type 0
 BlockGiven =
     (w : World) (b : List ℕ) → Works w → w .core .port .phase ≡ Rest → writes (driveOf w) ≡ true
-    → driveOf w .head + writeRoom ≤ length (tapeOf w) → length b ≡ bodySize
+    → driveOf w .head + 1541 ≤ length (tapeOf w) → length b ≡ bodySize
     → tapeAt (run w (givenEach b) .lent) (w .core .port .selected) ≡ recorded (tapeOf w) (driveOf w .head) (blockRecord b)
 
 -- A whole block at the head is handed out as it stands, byte for byte.
