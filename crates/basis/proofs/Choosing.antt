@@ -19,6 +19,12 @@ pub passed : {A : Type 0} (b : Bool) (x y : A) → b ≡ false → y ≡ pick b 
 unfolding pick
 passed b x y e = rw (e) refl
 
+-- What holds of both holds of the one chosen.
+pub choice-holds : {A : Type 0} (P : A → Type 0) (t : Bool) {x y : A} → P x → P y → P (pick t x y)
+unfolding pick
+choice-holds P true px py = px
+choice-holds P false px py = py
+
 -- Where two tests hold, each does; and where each does, both do.
 pub both : (a b : Bool) → (a && b) ≡ true → (a ≡ true) × (b ≡ true)
 both true b h = (refl, h)

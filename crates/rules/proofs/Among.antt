@@ -1,7 +1,7 @@
 -- A strike among other events: what reaches a drive decides what it hands out, and the strike's bytes come last.
 use Prim.Native.Nat.{ℕ, zero, suc, _*_}
 use mathlib.Core.Path.{_≡_, refl, sym, ap, subst, _∙_}
-use mathlib.Core.Bool.{Bool, true, false}
+use mathlib.Core.Bool.{true}
 use mathlib.Core.List.{List, [], _∷_, _++_}
 use mathlib.Core.Option.{Option, none, some}
 use lib.ListN.{length}
@@ -31,14 +31,11 @@ use Rattle.rules.proofs.Ports.{take-ported}
 use Rattle.rules.proofs.Demand3.{demand-3}
 use Rattle.rules.proofs.Ran.{run-append}
 use Rattle.rules.proofs.Handing.{take-event}
+use Rattle.rules.proofs.Blocks.{only-append}
 use Rattle.rules.proofs.Struck.{strike-recorded}
 use Rattle.rules.proofs.Returns.{strike-found, strike-comes-back}
 
 -- ---- one list of events after another
-
-only-append : {A : Type 0} (b : Bool) (x : A) (l m : List A) → onlyIf b x (l ++ m) ≡ onlyIf b x l ++ m
-only-append true x l m = refl
-only-append false x l m = refl
 
 given-append : (d : ℕ) (w : World) (es fs : List (List ℕ)) → given realChange d w (es ++ fs) ≡ given realChange d w es ++ given realChange d (run w es) fs
 given-append d w [] fs = refl

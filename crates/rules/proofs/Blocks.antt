@@ -21,16 +21,14 @@ use Rattle.rules.specs.declared.phase.Phase.the-variants.{Rest}
 use Rattle.rules.specs.declared.answer.Turn.{Turn}
 use Rattle.rules.specs.Drive.{made}
 use Rattle.rules.specs.Unit.{tapeAt, atPhase}
-use Rattle.rules.specs.Effect.{Seat, seat, Acted, leaves, withBlock}
-use Rattle.rules.specs.Bytes.{roomToWrite, afterBlock, stored}
+use Rattle.rules.specs.Effect.{Seat, seat, leaves}
+use Rattle.rules.specs.Bytes.{afterBlock, stored}
 use Rattle.rules.specs.Run.{World, after, turns, givenEach, takenTimes}
 use Rattle.rules.specs.Reach.{onlyIf}
-use Rattle.rules.specs.Promises.Runs.{online}
 use Rattle.rules.specs.Promises.Strike.{driveOf, tapeOf, Works, Ready, strike, handedOut, AllTaken, RaisedLast, then, BlockGiven, BlockHanded, StaysBefore}
 use Rattle.rules.proofs.Changes.{stored-there, before-the-head}
-use Rattle.rules.proofs.Places.{choice-holds}
-use Rattle.rules.proofs.Seated.{Sits, sits-here, left}
-use Rattle.rules.proofs.Giving.{block-given}
+use Rattle.rules.proofs.Seated.{Sits, sits-here}
+use Rattle.rules.proofs.Giving.{stored-here, block-given}
 use Rattle.rules.proofs.Handing.{block-handed}
 use Rattle.rules.proofs.Ways.{Fit}
 
@@ -42,13 +40,14 @@ pub taken-add : (n m : ℕ) → takenTimes (n + m) ≡ takenTimes n ++ takenTime
 taken-add zero m = rw zero-add
 taken-add (suc n) m = rw suc-add (ap (λ (x : List (List ℕ)). (3 ∷ []) ∷ x) (taken-add n m))
 
+pub only-append : {A : Type 0} (b : Bool) (x : A) (l m : List A) → onlyIf b x (l ++ m) ≡ onlyIf b x l ++ m
+only-append true x l m = refl
+only-append false x l m = refl
+
 pub handed-append : (rs ss : List Turn) → handedOut (rs ++ ss) ≡ handedOut rs ++ handedOut ss
 handed-append [] ss = refl
-handed-append (r ∷ rs) ss = go (r .given) (handedOut (rs ++ ss)) (handedOut rs) (handed-append rs ss)
-  where
-    go : (b : Bool) (x y : List ℕ) → x ≡ y ++ handedOut ss → onlyIf b (r .byte) x ≡ onlyIf b (r .byte) y ++ handedOut ss
-    go true x y e = ap (λ (l : List ℕ). r .byte ∷ l) e
-    go false x y e = e
+handed-append (r ∷ rs) ss =
+    ap (onlyIf (r .given) (r .byte)) (handed-append rs ss) ∙ only-append (r .given) (r .byte) (handedOut rs) (handedOut ss)
 
 pub taken-append : (rs ss : List Turn) → AllTaken rs → AllTaken ss → AllTaken (rs ++ ss)
 taken-append [] ss p q = q
@@ -88,12 +87,6 @@ stored-on b p d t e r =
 seat-tape : {w : World} {g : List ℕ} {s : Seat} (n : ℕ) → Sits w g s → s .port .selected ≡ n → tapeAt (w .lent) n ≡ s .tape
 seat-tape {w} {g} {s} n k e =
     subst (λ (x : ℕ). tapeAt (w .lent) x ≡ s .tape) (ap (λ (x : Seat). x .port .selected) (k .seat) ∙ e) (ap (λ (x : Seat). x .tape) (k .seat))
-
-stored-here : (b : List ℕ) (p : Port) (d : Drive) (t : List ℕ) → stored b p d t .moved .port .selected ≡ p .selected
-unfolding stored afterBlock
-stored-here b p d t =
-    let P : Acted → Type 0 = λ m. m .moved .port .selected ≡ p .selected in
-    choice-holds P (roomToWrite d t) (choice-holds P (roomToWrite (made (d .head + 513) d) (withBlock b d t)) refl refl) refl
 
 pub block-is-given : BlockGiven
 block-is-given w b k rest may room e =

@@ -1,12 +1,12 @@
 -- What an event does to the selected drive's tape, and when.
 use Prim.Native.Nat.{ℕ, _+_, _≤_}
 use mathlib.Core.Path.{_≡_, refl, sym, ap, subst, _∙_}
-use mathlib.Core.Bool.{Bool, true, false, not, true≢false, false≢true}
+use mathlib.Core.Bool.{Bool, true, false, not, true≢false}
 use mathlib.Core.List.{List}
 use native.Mathlib.Omega.{arith}
 use lib.Dec.{leb}
 use lib.ListN.{length, set, take, length-set}
-use borrow.Author.Tests.{le-leb}
+use borrow.Author.Tests.{le-leb, not-true}
 use Rattle.basis.specs.Choice.{pick}
 use Rattle.tape.specs.Record.{markRecord, blockRecord}
 use Rattle.tape.specs.Recording.{recorded, erased}
@@ -37,8 +37,8 @@ use Rattle.rules.specs.Online.{leftAlone, leaving, dropped}
 use Rattle.rules.specs.Step.{Stepped, act, stagedIn, seatOf, effectOf}
 use Rattle.rules.specs.Promises.Table.{answerTo}
 use Rattle.rules.specs.Promises.Changes.{Accepted, blockThere, Change, unchanged, erasedWhole, markMade, markLeft, blockMade, OneChange, Happens, RecordingHappens, OnlyAcceptedOrders, RecordingCutsOff, BeforeTheHead}
-use Rattle.basis.proofs.Choosing.{picked, passed, both}
-use Rattle.rules.proofs.Places.{put-same, tape-back, choice-holds}
+use Rattle.basis.proofs.Choosing.{picked, passed, choice-holds, both}
+use Rattle.rules.proofs.Places.{put-same, tape-back}
 use Rattle.rules.proofs.Sound.{Sound}
 use Rattle.rules.proofs.Codes.{orders}
 use Rattle.rules.proofs.Acts.{writing-is}
@@ -141,10 +141,6 @@ module _ (c : Core) (l : Lent) (event : List ℕ) where
   writing-parts : (d : Drive) → writes d ≡ true → (d .mode ≡ Writing) × (d .exception ≡ false)
   writing-parts d h =
       let p = both (isWriting (d .mode)) (not (d .exception)) h in (writing-is (d .mode) (p .0), not-true (d .exception) (p .1))
-    where
-      not-true : (b : Bool) → not b ≡ true → b ≡ false
-      not-true true e = absurd (false≢true e)
-      not-true false e = refl
 
   -- an act that raised nothing is answered 0, so one that is answered 0 raised nothing
   own-happens : (a : Act) → eventOf event ≡ Own a → Sound c l

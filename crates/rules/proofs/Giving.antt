@@ -1,7 +1,7 @@
 -- 512 bytes given to a drive that writes: what they leave is what the last of them finds staged.
 use Prim.Native.Nat.{ℕ, zero, suc, _+_, _<_}
 use mathlib.Core.Path.{_≡_, refl, sym, ap, subst, _∙_}
-use mathlib.Core.Bool.{Bool, true, false}
+use mathlib.Core.Bool.{true, false}
 use mathlib.Core.List.{List, [], _∷_, _++_, append-assoc}
 use native.Mathlib.Omega.{arith}
 use native.Mathlib.Numerals.{add-one}
@@ -10,6 +10,7 @@ use lib.ListN.{length, set, take, length-set}
 use lib.Seq.{take-all, take-suc-set}
 use borrow.Author.Tests.{lt-ltb}
 use Rattle.basis.specs.Choice.{pick}
+use Rattle.basis.proofs.Choosing.{choice-holds}
 use Rattle.rules.specs.declared.drive.Drive.{Drive}
 use Rattle.rules.specs.declared.unit.Port.{Port}
 use Rattle.rules.specs.declared.phase.Phase.{Phase}
@@ -21,11 +22,10 @@ use Rattle.rules.specs.Unit.{atPhase}
 use Rattle.rules.specs.Event.{bodiedEvent, eventOf}
 use Rattle.rules.specs.Refusal.{inStepAt}
 use Rattle.rules.specs.Phase.{givenBefore}
-use Rattle.rules.specs.Effect.{Seat, seat, Acted, leaves, withBlock}
+use Rattle.rules.specs.Effect.{Seat, seat, Acted, leaves, withBlock, resting}
 use Rattle.rules.specs.Bytes.{stagedByte, roomToWrite, afterBlock, stored, byteGiven}
 use Rattle.rules.specs.Run.{World, after, run, turns, givenEach}
 use Rattle.rules.specs.Promises.Strike.{AllTaken}
-use Rattle.rules.proofs.Places.{choice-holds}
 use Rattle.rules.proofs.Seated.{Sits, left, Moves, sits-step}
 
 -- the phase in which n bytes of a block were given
@@ -45,12 +45,17 @@ give-event : (b : ℕ) → eventOf (2 ∷ b ∷ []) ≡ Own (Give b)
 unfolding eventOf bodiedEvent pick
 give-event b = refl
 
-given-here : (g : List ℕ) (s : Seat) (n : ℕ) → byteGiven g s n .moved .port .selected ≡ s .port .selected
+-- the drive stays selected
+pub stored-here : (g : List ℕ) (p : Port) (d : Drive) (t : List ℕ) → stored g p d t .moved .port .selected ≡ p .selected
 unfolding stored afterBlock
+stored-here g p d t =
+    let P : Acted → Type 0 = λ m. m .moved .port .selected ≡ p .selected in
+    choice-holds P (roomToWrite d t) (choice-holds P (roomToWrite (made (d .head + 513) d) (withBlock g d t)) refl refl) refl
+
+given-here : (g : List ℕ) (s : Seat) (n : ℕ) → byteGiven g s n .moved .port .selected ≡ s .port .selected
 given-here g s n =
-    let P : Acted → Type 0 = λ m. m .moved .port .selected ≡ s .port .selected in
-    let after : Bool = roomToWrite (made (s .drive .head + 513) (s .drive)) (withBlock g (s .drive) (s .tape)) in
-    choice-holds P (ltb n 511) refl (choice-holds P (roomToWrite (s .drive) (s .tape)) (choice-holds P after refl refl) refl)
+    choice-holds (λ (m : Acted). m .moved .port .selected ≡ s .port .selected) (ltb n 511) refl
+    (stored-here g (resting s) (s .drive) (s .tape))
 
 -- before the 512th the byte is staged in its place
 staged-there : (g : List ℕ) (n b : ℕ) → n < 511 → stagedByte n b g ≡ set g n b

@@ -22,7 +22,8 @@ use Rattle.rules.specs.Unit.{atPhase}
 use Rattle.rules.specs.Edge.{checked}
 use Rattle.rules.specs.Effect.{Seat, seat}
 use Rattle.rules.specs.Run.{World, after, run, turns, takenTimes}
-use Rattle.rules.specs.Promises.Strike.{driveOf, tapeOf, AllWhole, joined, strike, handedOut, RaisedLast, last, then, StrikeHandedOut}
+use Rattle.rules.specs.Promises.Events.{joined}
+use Rattle.rules.specs.Promises.Strike.{driveOf, tapeOf, AllWhole, strike, handedOut, RaisedLast, last, then, StrikeHandedOut}
 use Rattle.rules.proofs.Ran.{run-append, turns-append}
 use Rattle.rules.proofs.Seated.{Sits}
 use Rattle.rules.proofs.Handing.{block-handed}

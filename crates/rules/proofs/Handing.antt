@@ -11,6 +11,7 @@ use lib.ListN.{length, getD, drop, take-append-drop}
 use lib.Seq.{drop-drop, getD-drop}
 use borrow.Author.Tests.{lt-ltb}
 use Rattle.basis.specs.Choice.{pick}
+use Rattle.basis.proofs.Choosing.{choice-holds}
 use Rattle.tape.specs.declared.found.Found.the-variants.{Block}
 use Rattle.tape.specs.Record.{blockRecord, foundAt}
 use Rattle.tape.specs.Held.{Holds}
@@ -31,8 +32,7 @@ use Rattle.rules.specs.Effect.{Seat, seat, Acted, hands}
 use Rattle.rules.specs.Bytes.{handed, lastHanded, byteTaken}
 use Rattle.rules.specs.Run.{World, after, run, turnOf, turns, takenTimes}
 use Rattle.rules.specs.Promises.Strike.{AllTaken, RaisedLast, last, then, handedOut}
-use Rattle.rules.proofs.Places.{choice-holds}
-use Rattle.rules.proofs.Seated.{Sits, left, Moves, sits-step}
+use Rattle.rules.proofs.Seated.{Sits, Moves, sits-step}
 
 -- the phase in which n bytes of a block were taken
 abbrev takenAt : ℕ → Phase

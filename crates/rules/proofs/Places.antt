@@ -7,6 +7,7 @@ use native.Mathlib.Omega.{arith}
 use lib.Dec.{leb, eqb}
 use borrow.Author.Tests.{eqb-true, eqb-false, ne-eqb, le-leb}
 use Rattle.basis.specs.Choice.{pick}
+use Rattle.basis.proofs.Choosing.{choice-holds}
 use Rattle.rules.specs.Unit.{Lent, lent, oneOf, putAt, putLast, tapeAt, putTape, putStaging}
 
 -- The numbers of the four drives.
@@ -98,11 +99,6 @@ one-holds P {a} {b} {c} {d} pa pb pc pd j = go (eqb j 0) (eqb j 1) (eqb j 2)
     go false true r = pb
     go false false true = pc
     go false false false = pd
-
-pub choice-holds : {A : Type 0} (P : A → Type 0) (t : Bool) {x y : A} → P x → P y → P (pick t x y)
-unfolding pick
-choice-holds P true px py = px
-choice-holds P false px py = py
 
 pub put-holds : {A : Type 0} (P : A → Type 0) {x a b c d : A} (i : ℕ) → P x → P a → P b → P c → P d → (j : ℕ)
     → P (oneOf j (putAt 0 i x a) (putAt 1 i x b) (putAt 2 i x c) (putLast i x d))

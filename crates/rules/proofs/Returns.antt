@@ -24,7 +24,7 @@ use Rattle.rules.specs.Unit.{atPhase, atLevel, showing}
 use Rattle.rules.specs.Octets.{octetsOf}
 use Rattle.rules.specs.Effect.{Seat, seat}
 use Rattle.rules.specs.Run.{World, after, run}
-use Rattle.rules.specs.Promises.Runs.{command, report, online}
+use Rattle.rules.specs.Promises.Runs.{command, report}
 use Rattle.rules.specs.Promises.Strike.{driveOf, tapeOf, Ready, MayRecord, AllWhole, strike, recording, Back, by-order, by-line, passing, Arrives, WayBack, StrikeComesBack, FirstStrikeComesBack}
 use Rattle.rules.proofs.Ran.{run-append}
 use Rattle.rules.proofs.Seated.{Sits, sits-works}

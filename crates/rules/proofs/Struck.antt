@@ -20,8 +20,9 @@ use Rattle.rules.specs.Drive.{setHead, inMode, made, writes}
 use Rattle.rules.specs.Unit.{atPhase}
 use Rattle.rules.specs.Effect.{Seat, seat, Acted}
 use Rattle.rules.specs.Run.{World, after, run, turns, givenEach}
-use Rattle.rules.specs.Promises.Runs.{command, online}
-use Rattle.rules.specs.Promises.Strike.{driveOf, tapeOf, MayRecord, AllWhole, joined, strike, AllTaken, StrikeRecorded, FirstStrikeStays}
+use Rattle.rules.specs.Promises.Runs.{command}
+use Rattle.rules.specs.Promises.Events.{joined}
+use Rattle.rules.specs.Promises.Strike.{driveOf, tapeOf, MayRecord, AllWhole, strike, AllTaken, StrikeRecorded, FirstStrikeStays}
 use Rattle.rules.proofs.Ran.{run-append, turns-append}
 use Rattle.rules.proofs.Seated.{Sits, sits-works, left}
 use Rattle.rules.proofs.Giving.{block-given}

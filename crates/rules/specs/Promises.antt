@@ -1,4 +1,5 @@
 -- The promises made of the rules. Each is stated here and proved in proofs/.
+pub mod Events
 pub mod Table
 pub mod Refused
 pub mod Orders

@@ -16,7 +16,7 @@ use Rattle.tape.specs.Laws.{Stands, whole-block, one-mark, Walks, over-b
 use Rattle.tape.specs.Held.{Holds, RecordedHolds, RecordedOn, HoldsBefore, HoldsParts, HeldByte, HeldBlock, HeldMark, bodyAt, FoundHolds, PastSame, Next, PastNext}
 use Rattle.tape.proofs.Standing.{case-found, found-case}
 use Rattle.tape.proofs.Recorded.{recorded-before, recorded-from}
-use Rattle.tape.proofs.Walking.{trail-block, trail-mark, trail-stop, trail-start, trail-way}
+use Rattle.tape.proofs.Walking.{trail-block, trail-mark, trail-stop, trail-start, trail-way, way-start}
 
 -- ---- recording
 
@@ -129,16 +129,11 @@ mark-same t u a k e n l f = go (subst (λ (x : Found). Stands t k x) f (found-ca
     go : Stands t k Mark → foundAt u k ≡ Mark
     go (one-mark b q) = case-found u k Mark (one-mark (omega arith) (byte-same t u a k e (omega arith) ∙ q))
 
--- the walk as a relation is the walk, and starts where it is asked to
+-- the walk as a relation is the walk
 way-is : {t : List ℕ} {h : ℕ} {r : Trail} → Walks t h r → r ≡ trail t h
 way-is {t} {h} (over-block e w) = ap (block h) (way-is w) ∙ sym (trail-block t h e)
 way-is {t} {h} (over-mark e w) = ap (mark h) (way-is w) ∙ sym (trail-mark t h e)
 way-is {t} {h} (at-stop {w = w} e) = sym (trail-stop t h w e)
-
-way-start : {t : List ℕ} {h : ℕ} {r : Trail} → Walks t h r → startOf r ≡ h
-way-start (over-block e w) = refl
-way-start (over-mark e w) = refl
-way-start (at-stop e) = refl
 
 past-above : {t : List ℕ} {h : ℕ} {r : Trail} → Walks t h r → (n a : ℕ) → pastMarks n r ≡ Past a → h ≤ a
 past-above {t} {h} {r} w zero a p = let q : startOf r ≡ a = cc in omega (arith, way-start w, q)

@@ -69,14 +69,14 @@ pub trail-way : TrailWalks
 unfolding trail
 trail-way t h = walk-way t (suc (length t)) h (omega arith)
 
+pub way-start : {t : List ℕ} {h : ℕ} {r : Trail} → Walks t h r → startOf r ≡ h
+way-start (over-block e w) = refl
+way-start (over-mark e w) = refl
+way-start (at-stop e) = refl
+
 way-within : (t : List ℕ) (h b : ℕ) {r : Trail} → Walks t h r → length t ≤ b → h ≤ b → endOf (pastMarks 1 r) ≤ b
 way-within t h b (over-block e w) l p = way-within t (h + 513) b w l (omega (arith, block-fits t h e))
-way-within t h b (over-mark e w) l p = rw (way-start t (h + 1) w) (omega (arith, mark-fits t h e))
-  where
-    way-start : (t : List ℕ) (k : ℕ) {r : Trail} → Walks t k r → startOf r ≡ k
-    way-start t k (over-block e w) = refl
-    way-start t k (over-mark e w) = refl
-    way-start t k (at-stop e) = refl
+way-within t h b (over-mark e w) l p = rw (way-start w) (omega (arith, mark-fits t h e))
 way-within t h b (at-stop e) l p = p
 
 pub passed-within : PassedWithin

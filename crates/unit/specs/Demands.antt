@@ -24,7 +24,8 @@ use Rattle.rules.specs.Promises.Status.{ByStatus}
 use Rattle.rules.specs.Promises.Plug.{meansDrive}
 use Rattle.rules.specs.Promises.Changes.{Happens}
 use Rattle.rules.specs.Promises.Changes
-use Rattle.rules.specs.Promises.Strike.{driveOf, tapeOf, MayRecord, AllWhole, joined, AllTaken, recording, reading, Back, passing, HandedOut, bytesOf, handedBy}
+use Rattle.rules.specs.Promises.Events.{joined}
+use Rattle.rules.specs.Promises.Strike.{driveOf, tapeOf, MayRecord, AllWhole, AllTaken, recording, reading, Back, passing, HandedOut, bytesOf, handedBy}
 use Rattle.rules.specs.Promises.Demand3.{Alike}
 use Rattle.rules.specs.Ran.{Ran, RunsAreTheBooks}
 

@@ -6,10 +6,9 @@ use Rattle.rules.specs.declared.unit.Core.{Core}
 use Rattle.rules.specs.declared.answer.Outcome.{Outcome}
 use Rattle.rules.specs.Unit.{Lent, putStaging}
 use Rattle.rules.specs.Step.{Steps}
-use Rattle.rules.specs.Run.{World, world, run}
+use Rattle.rules.specs.Run.{World, world, run, givenEach}
 use Rattle.rules.specs.Promises.Outcomes.{StepsOnce}
 use Rattle.unit.specs.Turn.{turnOfOutcome}
-use Rattle.rules.specs.Run.{givenEach}
 
 -- The four tapes.
 abbrev pub SameTapes : Lent → Lent → Type 0

@@ -1,38 +1,38 @@
 -- Runs to check: each from a fresh unit with a tape in drive 0.
 use Prim.Native.Nat.{ℕ}
 use mathlib.Core.Path.{_≡_}
-use mathlib.Core.Bool.{Bool, true, false}
 use mathlib.Core.List.{List, [], _∷_, _++_, map}
-use lib.ListN.{length, getD, take, drop, replicate}
+use lib.ListN.{take, drop, replicate}
 use Rattle.rules.specs.declared.answer.Turn.{Turn}
-use Rattle.rules.specs.declared.answer.Answer.the-variants.{Taken}
 use Rattle.rules.specs.Answer.{rowOf}
+use Rattle.rules.specs.Promises.Events
+use Rattle.rules.specs.Promises.Events.{give, fetch, rise, fall, restart, cartridge, pull, underrun}
 use Rattle.rules.specs.Run.{World, run, turns, freshWorld}
 
--- Events as bytes: READ STATUS with its six octets taken; cartridge in, open and protected; ONLINE raised and an order; bytes given.
+-- In lists: READ STATUS with its six octets taken; cartridge in, open and protected; ONLINE raised and an order; bytes given.
 abbrev pub report : List (List ℕ)
-report = (1 ∷ 192 ∷ []) ∷ replicate 6 (3 ∷ [])
+report = Events.command 192 ∷ replicate 6 fetch
 
 abbrev pub openIn : ℕ → List (List ℕ)
-openIn i = (7 ∷ i ∷ []) ∷ []
+openIn i = cartridge i ∷ []
 
 abbrev pub protectedIn : List (List ℕ)
-protectedIn = (7 ∷ 128 ∷ []) ∷ []
+protectedIn = cartridge 128 ∷ []
 
 abbrev pub command : ℕ → List (List ℕ)
-command c = (1 ∷ c ∷ []) ∷ []
+command c = Events.command c ∷ []
 
 abbrev pub online : List (List ℕ)
-online = (4 ∷ []) ∷ []
+online = rise ∷ []
 
 abbrev pub offline : List (List ℕ)
-offline = (5 ∷ []) ∷ []
+offline = fall ∷ []
 
 abbrev pub reset : List (List ℕ)
-reset = (6 ∷ []) ∷ []
+reset = restart ∷ []
 
 abbrev pub giving : ℕ → ℕ → List (List ℕ)
-giving n b = replicate n (2 ∷ b ∷ [])
+giving n b = replicate n (give b)
 
 -- A run that document 01 marks: the tape of drive 0, the events, octets 0 and 1 of the report made after them, and the tape then.
 pub record Case : Type 0 where
@@ -138,10 +138,10 @@ runsToCheck =
     ∷ from 2000 0 (writing ++ (giving 3 7 ++ reset))
     ∷ from 2000 0 (writing ++ offline)
     -- another cartridge between two reports
-    ∷ from 16 0 (ready ++ ((8 ∷ 0 ∷ []) ∷ (openIn 0 ++ report)))
+    ∷ from 16 0 (ready ++ (pull 0 ∷ (openIn 0 ++ report)))
     -- an underrun between two octets: this report, and the next
-    ∷ from 16 0 (ready ++ ((1 ∷ 192 ∷ []) ∷ (3 ∷ []) ∷ (10 ∷ 0 ∷ []) ∷ replicate 5 (3 ∷ [])))
-    ∷ from 16 0 (ready ++ (((1 ∷ 192 ∷ []) ∷ (3 ∷ []) ∷ (10 ∷ 0 ∷ []) ∷ replicate 5 (3 ∷ [])) ++ report))
+    ∷ from 16 0 (ready ++ (Events.command 192 ∷ fetch ∷ underrun 0 ∷ replicate 5 fetch))
+    ∷ from 16 0 (ready ++ ((Events.command 192 ∷ fetch ∷ underrun 0 ∷ replicate 5 fetch) ++ report))
     -- three bytes left by drive 0, then a block of drive 1
     ∷ from 2000 2054 (writing ++ (giving 3 9 ++ (reset ++ (report ++ (openIn 1 ++ (command 2 ++ (report ++ (command 64 ++ giving 512 7))))))))
     -- drive 0 past a mark while the line falls with drive 1 selected

@@ -5,6 +5,7 @@ use mathlib.Core.List.{List, [], _∷_, _++_}
 use lib.ListN.{replicate}
 use Rattle.rules.specs.Run.{World, run, freshWorld}
 use Rattle.rules.specs.Reach.{realChange, reached}
+use Rattle.rules.specs.Promises.Events.{error, underrun}
 use Rattle.rules.specs.Promises.Runs.{report, openIn, command, online, giving}
 
 abbrev pub sampleWorld : World
@@ -18,9 +19,9 @@ plainRun = openIn 0 ++ (report ++ (online ++ (command 2 ++ (report ++ (command 1
 abbrev pub busyRun : List (List ℕ)
 busyRun =
     (openIn 1 ++ openIn 0)
-    ++ (((9 ∷ 1 ∷ []) ∷ report)
+    ++ ((error 1 ∷ report)
     ++ (((online ++ command 2) ++ (report ++ online))
-    ++ (((command 64 ++ giving 512 7) ++ (command 96 ++ ((10 ∷ 1 ∷ []) ∷ []))) ++ (command 1 ++ command 96))))
+    ++ (((command 64 ++ giving 512 7) ++ (command 96 ++ (underrun 1 ∷ []))) ++ (command 1 ++ command 96))))
 
 -- The events that reach drive 0 in both.
 abbrev pub reachedBoth : List (List ℕ)

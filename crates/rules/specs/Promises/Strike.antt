@@ -23,6 +23,7 @@ use Rattle.rules.specs.Refusal.{possible, short}
 use Rattle.rules.specs.Run.{World, after, run, turns, givenEach, takenTimes, freshWorld}
 use Rattle.rules.specs.Reach.{realChange, Gave, onlyIf, reached, given}
 use Rattle.rules.specs.Promises.Changes.{Accepted}
+use Rattle.rules.specs.Promises.Events.{joined}
 use Rattle.rules.specs.Promises.Runs.{command, report, online, offline}
 
 -- ---- What is spoken of
@@ -55,14 +56,10 @@ pub record MayRecord (w : World) (n : ℕ) : Type 0 where
   pub unplugged : driveOf w .protected ≡ false
   pub room : driveOf w .head + n * 513 + 1541 ≤ length (tapeOf w)
 
--- Blocks of 512 bytes; their bytes one after the other; their records, with the mark that closes them.
+-- Blocks of 512 bytes; their records, with the mark that closes them. Their bytes one after the other are `joined`.
 abbrev pub AllWhole : List (List ℕ) → Type 0
 AllWhole [] = Prim.Unit
 AllWhole (b ∷ bs) = (length b ≡ bodySize) × AllWhole bs
-
-abbrev pub joined : List (List ℕ) → List ℕ
-joined [] = []
-joined (b ∷ bs) = b ++ joined bs
 
 abbrev pub strike : List (List ℕ) → List ℕ
 strike [] = markRecord

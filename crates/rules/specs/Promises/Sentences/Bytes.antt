@@ -8,7 +8,8 @@ use Rattle.rules.specs.declared.phase.Phase.{Phase}
 use Rattle.rules.specs.declared.phase.Phase.the-variants.{Rest, Taking, Giving, Status}
 use Rattle.rules.specs.declared.answer.Lines.{Lines}
 use Rattle.rules.specs.Run.{World}
-use Rattle.rules.specs.Promises.Sentences.Form.{says, hands, R, RD, E, ED, D, O, Case, rows, row, give, fetch}
+use Rattle.rules.specs.Promises.Events.{give, fetch}
+use Rattle.rules.specs.Promises.Sentences.Form.{says, hands, R, RD, E, ED, D, O, Case, rows, row}
 use Rattle.rules.specs.Promises.Sentences.Scene.{up, low, none, cni, eom, ude, quiet, loud, ramp, block, odd, lead, oldOctets}
 use Rattle.rules.specs.Promises.Sentences.Scene.{port, among, scene, gone, free, plugged}
 use Rattle.rules.specs.Promises.Sentences.Orders.{Edge, edges, met}

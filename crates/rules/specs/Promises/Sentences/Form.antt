@@ -2,7 +2,7 @@
 use Prim.Native.Nat.{ℕ}
 use mathlib.Core.Path.{_≡_}
 use mathlib.Core.Bool.{Bool, true, false}
-use mathlib.Core.List.{List, [], _∷_, _++_, map}
+use mathlib.Core.List.{List, [], _∷_, map}
 use Rattle.rules.specs.declared.answer.Turn.{Turn}
 use Rattle.rules.specs.declared.answer.Lines.{Lines}
 use Rattle.rules.specs.Answer.{rowOf}
@@ -63,11 +63,6 @@ shownBy r = record { seen = map seenOf (turns (r .start) (r .events)); end = run
 abbrev pub wanted : Case → Shown
 wanted r = record { seen = r .seen; end = r .end }
 
--- Several lists of rows as one.
-abbrev pub joined : List (List Case) → List Case
-joined [] = []
-joined (r ∷ rs) = r ++ joined rs
-
 abbrev pub Hold : List Case → Type 0
 Hold rows = map shownBy rows ≡ map wanted rows
 
@@ -80,32 +75,3 @@ row w e s w′ = rows w (e ∷ []) (s ∷ []) w′
 
 abbrev pub still : World → List ℕ → ℕ → Lines → Case
 still w e a l = row w e (says a l) w
-
--- The events, by what they are.
-abbrev pub command : ℕ → List ℕ
-command c = 1 ∷ c ∷ []
-
-abbrev pub give : ℕ → List ℕ
-give b = 2 ∷ b ∷ []
-
-abbrev pub fetch : List ℕ
-fetch = 3 ∷ []
-
-abbrev pub rise : List ℕ
-rise = 4 ∷ []
-
-abbrev pub fall : List ℕ
-fall = 5 ∷ []
-
--- The body of 07 is the drive's number, and 128 more for a protected cartridge.
-abbrev pub cartridge : ℕ → List ℕ
-cartridge b = 7 ∷ b ∷ []
-
-abbrev pub pull : ℕ → List ℕ
-pull i = 8 ∷ i ∷ []
-
-abbrev pub error : ℕ → List ℕ
-error i = 9 ∷ i ∷ []
-
-abbrev pub underrun : ℕ → List ℕ
-underrun i = 10 ∷ i ∷ []

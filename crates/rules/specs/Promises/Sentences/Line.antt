@@ -6,7 +6,8 @@ use Rattle.rules.specs.declared.drive.Drive.{Drive}
 use Rattle.rules.specs.declared.drive.Mode.the-variants.{Idle, Writing, Reading}
 use Rattle.rules.specs.declared.phase.Phase.the-variants.{Rest}
 use Rattle.rules.specs.declared.answer.Lines.{Lines}
-use Rattle.rules.specs.Promises.Sentences.Form.{says, R, RD, E, Case, row, rise, fall}
+use Rattle.rules.specs.Promises.Events.{rise, fall}
+use Rattle.rules.specs.Promises.Sentences.Form.{says, R, RD, E, Case, row}
 use Rattle.rules.specs.Promises.Sentences.Scene.{up, low, none, cni, eom, fil, quiet, loud, odd, lead, scene, gone, free, plugged}
 
 -- The level that it was; record and tape before; answer and lines; record and tape after.

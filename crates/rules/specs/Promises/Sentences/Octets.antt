@@ -5,7 +5,8 @@ use mathlib.Core.List.{List, [], _∷_}
 use Rattle.rules.specs.declared.drive.Latched.{Latched}
 use Rattle.rules.specs.declared.drive.Mode.the-variants.{Idle, Reading}
 use Rattle.rules.specs.declared.phase.Phase.the-variants.{Rest, Status}
-use Rattle.rules.specs.Promises.Sentences.Form.{says, hands, RD, Case, rows, row, command, fetch, error, underrun}
+use Rattle.rules.specs.Promises.Events.{command, fetch, error, underrun}
+use Rattle.rules.specs.Promises.Sentences.Form.{says, hands, RD, Case, rows, row}
 use Rattle.rules.specs.Promises.Sentences.Scene.{up, none, all, cni, eom, ude, fil, ill, ndt, por, Slot, full, odd, oldStaging, port, among}
 use Rattle.rules.specs.Promises.Sentences.Scene.{scene, gone, free, plugged}
 

@@ -10,7 +10,8 @@ use Rattle.rules.specs.declared.drive.Mode.the-variants.{Idle, Writing, 
 use Rattle.rules.specs.declared.phase.Phase.the-variants.{Rest, Status}
 use Rattle.rules.specs.declared.answer.Lines.{Lines}
 use Rattle.rules.specs.Run.{World}
-use Rattle.rules.specs.Promises.Sentences.Form.{says, R, RD, E, Case, joined, row, command}
+use Rattle.rules.specs.Promises.Events.{joined, command}
+use Rattle.rules.specs.Promises.Sentences.Form.{says, R, RD, E, Case, row}
 use Rattle.rules.specs.Promises.Sentences.Scene.{up, low, latched, none, all, cni, eom, ude, fil, ill, ndt, also, full, quiet, loud, ramp}
 use Rattle.rules.specs.Promises.Sentences.Scene.{block, odd, lead, oldOctets, oldStaging, port, among, scene, gone, free, plugged}
 

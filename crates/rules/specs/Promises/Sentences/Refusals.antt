@@ -15,8 +15,8 @@ use Rattle.rules.specs.declared.answer.Answer.the-variants.{Taken, Raise
 use Rattle.rules.specs.Answer.{Row, rowOf}
 use Rattle.rules.specs.Refusal.{short, refusalBy}
 use Rattle.rules.specs.Run.{World}
-use Rattle.rules.specs.Promises.Sentences.Form.{R, RD, E, ED, D, O, Case, joined, still, command, give}
-use Rattle.rules.specs.Promises.Sentences.Form.{fetch, rise, fall, cartridge, pull, error, underrun}
+use Rattle.rules.specs.Promises.Events.{joined, command, give, restart, fetch, rise, fall, cartridge, pull, error, underrun}
+use Rattle.rules.specs.Promises.Sentences.Form.{R, RD, E, ED, D, O, Case, still}
 use Rattle.rules.specs.Promises.Sentences.Scene.{up, low, latched, none, quiet, loud, odd, oldOctets, oldStaging, port, among, scene, gone}
 use Rattle.rules.specs.Promises.Sentences.Scene.{free, plugged, lentAs}
 
@@ -38,7 +38,7 @@ AnswersTold =
 
 -- 5 comes before all else, with the three lines down: RESET and a malformed event are answered so too.
 abbrev pub never : World → List Case
-never w = still w (command 192) 5 O ∷ still w (6 ∷ []) 5 O ∷ still w [] 5 O ∷ []
+never w = still w (command 192) 5 O ∷ still w restart 5 O ∷ still w [] 5 O ∷ []
 
 -- What is just possible still takes an event: here one without bytes, answered 4, with the lines that the record has.
 abbrev pub just : World → Lines → List Case

@@ -8,7 +8,8 @@ use Rattle.rules.specs.declared.phase.Phase.{Phase}
 use Rattle.rules.specs.declared.phase.Phase.the-variants.{Rest, Taking, Giving, Status}
 use Rattle.rules.specs.declared.answer.Lines.{Lines}
 use Rattle.rules.specs.Run.{World}
-use Rattle.rules.specs.Promises.Sentences.Form.{says, R, RD, E, ED, D, O, Case, rows, row, command, cartridge, pull, error, underrun}
+use Rattle.rules.specs.Promises.Events.{command, cartridge, pull, error, underrun}
+use Rattle.rules.specs.Promises.Sentences.Form.{says, R, RD, E, ED, D, O, Case, rows, row}
 use Rattle.rules.specs.Promises.Sentences.Scene.{up, latched, none, all, cni, eom, fil, also, full, quiet, loud, odd, lead, oldOctets}
 use Rattle.rules.specs.Promises.Sentences.Scene.{oldStaging, port, among, at, scene, gone, free, plugged}
 

@@ -12,6 +12,7 @@ use Rattle.rules.specs.declared.unit.Unit.{Unit}
 use Rattle.rules.specs.declared.answer.Lines.{Lines}
 use Rattle.rules.specs.Phase.{givenBefore, takenBefore, outstanding, whichPhase, howFar}
 use Rattle.rules.specs.Run.{World, freshWorld}
+use Rattle.rules.specs.Promises.Events.{restart}
 use Rattle.rules.specs.Promises.Sentences.Form.{says, R, RD, E, ED, D, O, Case, rows, row, still}
 use Rattle.rules.specs.Promises.Sentences.Scene.{up, low, none, eom, fil, por, full, quiet, loud, odd, tape0, tape1, tape3, oldOctets}
 use Rattle.rules.specs.Promises.Sentences.Scene.{oldStaging, port, lentAs, scene, gone, free, plugged}
@@ -57,7 +58,7 @@ afterReset level =
     }
 
 abbrev pub resets : Bool → Phase → Drive → Case
-resets level ph d = row (scene level ph d odd) (6 ∷ []) (says 1 E) (afterReset level)
+resets level ph d = row (scene level ph d odd) restart (says 1 E) (afterReset level)
 
 abbrev pub resetting : List Case
 resetting =
