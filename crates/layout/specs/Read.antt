@@ -36,17 +36,18 @@ isPhase b n = leb b 3 && (leb 1 b || eqb n 0)
 abbrev pub isUnused : ℕ → Bool
 isUnused n = eqb n unused
 
--- Seven bools, the room among a drive's fields, a drive's bytes, the port's bytes.
+-- Eight bools, the room among a drive's fields, a drive's bytes, the port's bytes.
 abbrev pub isLatched : List ℕ → Bool
 isLatched l =
     isFlag (byteAt l 22)
     && (isFlag (byteAt l 23)
-    && (isFlag (byteAt l 24) && (isFlag (byteAt l 26) && (isFlag (byteAt l 27) && (isFlag (byteAt l 28) && isFlag (byteAt l 29))))))
+    && (isFlag (byteAt l 24)
+    && (isFlag (byteAt l 25) && (isFlag (byteAt l 26) && (isFlag (byteAt l 27) && (isFlag (byteAt l 28) && isFlag (byteAt l 29)))))))
 
 abbrev pub leavesRoom : List ℕ → Bool
 leavesRoom l =
     isUnused (fourAt l 8)
-    && (isUnused (byteAt l 18) && (isUnused (byteAt l 20) && (isUnused (byteAt l 25) && isUnused (twoAt l 30))))
+    && (isUnused (byteAt l 18) && (isUnused (byteAt l 20) && isUnused (twoAt l 30)))
 
 unfoldable pub isDrive : List ℕ → Bool
 isDrive l =
@@ -80,6 +81,7 @@ latchedOf l =
       cni = flagOf (byteAt l 22);
       eom = flagOf (byteAt l 23);
       ude = flagOf (byteAt l 24);
+      bnl = flagOf (byteAt l 25);
       fil = flagOf (byteAt l 26);
       ill = flagOf (byteAt l 27);
       ndt = flagOf (byteAt l 28);

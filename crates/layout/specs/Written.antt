@@ -43,9 +43,9 @@ modeByte Idle = 0
 modeByte Writing = 1
 modeByte Reading = 2
 
--- The latched bits, a byte each in the order of the octets, where BNL stands before FIL.
+-- The latched bits, a byte each in the order of the octets.
 abbrev pub latchedBytes : Latched → List ℕ
-latchedBytes l = flag (l .cni) ∷ flag (l .eom) ∷ flag (l .ude) ∷ unused ∷ flag (l .fil) ∷ flag (l .ill) ∷ flag (l .ndt) ∷ flag (l .por) ∷ []
+latchedBytes l = flag (l .cni) ∷ flag (l .eom) ∷ flag (l .ude) ∷ flag (l .bnl) ∷ flag (l .fil) ∷ flag (l .ill) ∷ flag (l .ndt) ∷ flag (l .por) ∷ []
 
 -- Cartridge and plug, mode and EXCEPTION, with room behind the plug and behind the mode.
 abbrev pub stateBytes : Drive → List ℕ

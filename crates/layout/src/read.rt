@@ -64,7 +64,8 @@ fn is_latched(p: &[u8; DRIVE]) -> bool
 {
     (p[22] <= 1)
         & ((p[23] <= 1)
-            & ((p[24] <= 1) & ((p[26] <= 1) & ((p[27] <= 1) & ((p[28] <= 1) & (p[29] <= 1))))))
+            & ((p[24] <= 1)
+                & ((p[25] <= 1) & ((p[26] <= 1) & ((p[27] <= 1) & ((p[28] <= 1) & (p[29] <= 1)))))))
 }
 
 // Room that no field has is 0.
@@ -72,7 +73,7 @@ fn leaves_room(p: &[u8; DRIVE]) -> bool
     ensures { λ r. ⌜ r ≡ leavesRoom (now (p .entry)) ⌝ }
 {
     (of_four(p[8], p[9], p[10], p[11]) == 0)
-        & ((p[18] == 0) & ((p[20] == 0) & ((p[25] == 0) & (of_two(p[30], p[31]) == 0))))
+        & ((p[18] == 0) & ((p[20] == 0) & (of_two(p[30], p[31]) == 0)))
 }
 
 fn is_drive(p: &[u8; DRIVE]) -> bool
@@ -104,6 +105,7 @@ fn latched_of(p: &[u8; DRIVE]) -> Latched
         cni: p[22] == 1,
         eom: p[23] == 1,
         ude: p[24] == 1,
+        bnl: p[25] == 1,
         fil: p[26] == 1,
         ill: p[27] == 1,
         ndt: p[28] == 1,

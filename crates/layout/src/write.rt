@@ -51,7 +51,7 @@ fn latched_bytes(l: Latched) -> [u8; 8]
         flag(l.cni),
         flag(l.eom),
         flag(l.ude),
-        UNUSED,
+        flag(l.bnl),
         flag(l.fil),
         flag(l.ill),
         flag(l.ndt),

@@ -1,6 +1,6 @@
 // The edge check, and what passing records comes to.
 ghost use mathlib.Core.Path.{_≡_};
-ghost use Rattle.rules.specs.Edge.{isBlock, halted, checked, standing};
+ghost use Rattle.rules.specs.Edge.{isBlock, halted, spoilt, checked, standing};
 use rules::Bit;
 use rules::Checked;
 use rules::Drive;
@@ -20,14 +20,29 @@ pub fn is_block(found: Found) -> bool
     }
 }
 
-// No record to go on with: the bit tells why, and the drive is Idle.
-fn halt(drive: Drive, why: Why) -> Drive
+// No record to go on with: the bit tells why, and the drive is Idle. A kind that nobody knows latches UDE and BNL, every other bad record UDE alone.
+pub(crate) fn halt(drive: Drive, why: Why) -> Drive
     ensures { λ r. ⌜ r ≡ halted why drive ⌝ }
 {
     match why {
         Why::End => drive.stop(Bit::Ndt),
-        Why::Unknown => drive.stop(Bit::Ude),
+        Why::Unknown => drive.stop(Bit::Ude).latch(Bit::Bnl),
         Why::Bad => drive.stop(Bit::Ude),
+    }
+}
+
+// In the middle of a block all but a whole block is a bad record; only a kind that nobody knows is told apart.
+pub(crate) fn spoilt(found: Found) -> Why
+    ensures { λ r. ⌜ r ≡ spoilt found ⌝ }
+{
+    match found {
+        Found::Block => Why::Bad,
+        Found::Mark => Why::Bad,
+        Found::Stop(why) => match why {
+            Why::End => Why::Bad,
+            Why::Unknown => Why::Unknown,
+            Why::Bad => Why::Bad,
+        },
     }
 }
 

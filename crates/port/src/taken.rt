@@ -4,17 +4,18 @@ ghost use mathlib.Core.List.{List};
 ghost use Prim.Native.Nat.{ℕ, _+_, _≤_};
 ghost use lib.ListN.{length};
 ghost use Rattle.tape.specs.Record.{foundAt, blockSize};
-ghost use Rattle.rules.specs.Edge.{isBlock, checked};
+ghost use Rattle.rules.specs.Edge.{checked};
 ghost use Rattle.rules.specs.Effect.{seat, acted};
 ghost use Rattle.rules.specs.Bytes.{handed, firstTaken, nextTaken, octetTaken, byteTaken};
 use crate::edge::check;
+use crate::edge::halt;
 use crate::edge::is_block;
+use crate::edge::spoilt;
 use crate::moved::hands;
 use crate::moved::leaves;
 use crate::moved::rests;
 use report::after_octet;
 use report::next_octet;
-use rules::Bit;
 use rules::Drive;
 use rules::LAST_PLACE;
 use rules::Moved;
@@ -62,15 +63,15 @@ fn take_first(port: Port, drive: Drive, tape: &[u8]) -> Moved
     }
 }
 
-// In the middle of a block the record is looked at anew: where it is no whole block any more, UDE.
+// In the middle of a block the record is looked at anew: where it is no whole block any more, it is a bad one.
 fn take_next(port: Port, drive: Drive, tape: &[u8], n: usize) -> Moved
-    ensures { λ r. ⌜ acted r (now (tape .entry))
-        ≡ nextTaken (seat port drive (now (tape .entry))) n (isBlock (foundAt (now (tape .entry)) (drive .head))) ⌝ }
+    ensures { λ r. ⌜ acted r (now (tape .entry)) ≡ nextTaken (seat port drive (now (tape .entry))) n (foundAt (now (tape .entry)) (drive .head)) ⌝ }
 {
-    if is_block(found_at(tape, drive.head)) {
+    let found = found_at(tape, drive.head);
+    if is_block(found) {
         hand(port, drive, tape, n)
     } else {
-        rests(true, port, drive.stop(Bit::Ude))
+        rests(true, port, halt(drive, spoilt(found)))
     }
 }
 

@@ -30,7 +30,7 @@ fn bit(weight: u8, stands: bool) -> u8
     if stands { weight } else { 0 }
 }
 
-// From ST0 down, a line for each bit: CNI also shows an empty slot, WRP the plug; two are never set.
+// From ST0 down, a line for each bit: CNI also shows an empty slot, WRP the plug; USL is never set.
 fn octet0(drive: Drive) -> u8
     ensures { λ r. ⌜ r ≡ octet0 drive ⌝ }
 {
@@ -40,7 +40,7 @@ fn octet0(drive: Drive) -> u8
         + bit(WRP, drive.protected)
         + bit(EOM, latched.eom)
         + bit(UDE, latched.ude)
-        + bit(BNL, false)
+        + bit(BNL, latched.bnl)
         + bit(FIL, latched.fil);
     bit(ST0, others != 0) + others
 }

@@ -17,7 +17,7 @@ use Rattle.rules.specs.declared.drive.Drive.{Drive}
 use Rattle.rules.specs.declared.drive.Mode.{Mode}
 use Rattle.rules.specs.declared.drive.Mode.the-variants.{Idle, Writing, Reading}
 use Rattle.rules.specs.declared.drive.Bit.{Bit}
-use Rattle.rules.specs.declared.drive.Bit.the-variants.{Cni, Eom, Ude, Ill}
+use Rattle.rules.specs.declared.drive.Bit.the-variants.{Cni, Eom, Ill}
 use Rattle.rules.specs.declared.phase.Phase.{Phase}
 use Rattle.rules.specs.declared.phase.Phase.the-variants.{Rest, Taking, Giving, Status}
 use Rattle.rules.specs.declared.event.Act.{Act}
@@ -30,7 +30,7 @@ use Rattle.rules.specs.Drive.{isWriting, isReading, writes, reads, rewou
 use Rattle.rules.specs.Unit.{atPhase, atDrive, atLevel, showing}
 use Rattle.rules.specs.Refusal.{possiblePhase, takes, gives, inStepAt}
 use Rattle.rules.specs.Order.{orderOf, needsOf, test5, test6, hasRoom, illegal, firstFault, faultBy}
-use Rattle.rules.specs.Edge.{isBlock, checked, standing}
+use Rattle.rules.specs.Edge.{isBlock, halted, spoilt, checked, standing}
 use Rattle.rules.specs.Octets.{octetsOf}
 use Rattle.rules.specs.Effect.{Seat, Acted, leaves, hands, withMark, withBlock, resting, ordered, faultOf, commanded}
 use Rattle.rules.specs.Phase.{givenBefore}
@@ -84,7 +84,8 @@ pub data Does (g : List ℕ) (s : Seat) : Act → Acted → Type 0 where
       (checked (s .tape) (passedTo (s .drive .head + 513) (s .drive)) .drive) (s .tape))
   meets-edge : s .port .phase ≡ Rest → checked (s .tape) (s .drive) .raised ≡ true
       → Does g s Take (leaves true (resting s) (checked (s .tape) (s .drive) .drive) (s .tape))
-  finds-no-block : isBlock (foundAt (s .tape) (s .drive .head)) ≡ false → Does g s Take (leaves true (resting s) (stopping Ude (s .drive)) (s .tape))
+  finds-no-block : (n : ℕ) → s .port .phase ≡ Giving n → isBlock (foundAt (s .tape) (s .drive .head)) ≡ false
+      → Does g s Take (leaves true (resting s) (halted (spoilt (foundAt (s .tape) (s .drive .head))) (s .drive)) (s .tape))
   -- ONLINE
   goes-up : Does g s Online (leaves false (atLevel true (s .port)) (s .drive) (s .tape))
   goes-down : Does g s Offline (leaves false (atLevel false (s .port)) (s .drive) (s .tape))
@@ -197,7 +198,7 @@ module _ (g : List ℕ) (s : Seat) (ok : SoundSeat s) where
       let p = both (leb n 511) (isReading (s .drive .mode)) (both (leb 1 n) _ k .1) in
       by-test (isBlock (foundAt (s .tape) (s .drive .head)))
       (λ r. handed-does n (leb-true n 511 (p .0)) (λ z. e ∙ ap Giving z) (reading-is (s .drive .mode) (p .1)) (block-is _ r))
-      (λ r. finds-no-block r)
+      (λ r. finds-no-block n e r)
   taken-does (Status j) e k h = hands-octet j e
 
   leaving-does : (m : Mode) → s .port .online ≡ true → s .drive .exception ≡ false → s .drive .mode ≡ m → Does g s Offline (leaving s m)

@@ -10,6 +10,7 @@ use lib.ListN.{length, getD, set, take, replicate, length-set}
 use lib.Seq.{take-suc-set, take-all}
 use borrow.Author.Tests.{ltb-false}
 use Rattle.basis.specs.Choice.{pick}
+use Rattle.tape.specs.declared.found.Found.{Found}
 use Rattle.tape.specs.Record.{foundAt}
 use Rattle.rules.specs.declared.drive.Mode.{Mode}
 use Rattle.rules.specs.declared.drive.Mode.the-variants.{Idle, Writing, Reading}
@@ -87,8 +88,8 @@ module _ (s : Seat) (g g′ : List ℕ) where
   first-agree : (c : Checked) → Agree g g′ (firstTaken s c) (firstTaken (seen s) c)
   first-agree c = agree-pick (c .raised) (same refl refl refl refl refl refl refl) (handed-agree 0)
 
-  next-agree : (n : ℕ) (b : Bool) → Agree g g′ (nextTaken s n b) (nextTaken (seen s) n b)
-  next-agree n b = agree-pick b (handed-agree n) (same refl refl refl refl refl refl refl)
+  next-agree : (n : ℕ) (f : Found) → Agree g g′ (nextTaken s n f) (nextTaken (seen s) n f)
+  next-agree n f = agree-pick (isBlock f) (handed-agree n) (same refl refl refl refl refl refl refl)
 
   octet-agree : (k : ℕ) → s .port .octets ≡ octetsIn (s .port .phase) (s .port .octets) → (b : Bool)
       → Agree g g′ (hands false (getD (s .port .octets) (octetPlace k) 0) (atPhase (pick b Rest (Status (k - 1))) (s .port)) (s .drive) (s .tape))
@@ -104,7 +105,7 @@ module _ (s : Seat) (g g′ : List ℕ) where
   unfolding octetTaken
   taken-agree Rest e h = first-agree (checked (s .tape) (s .drive))
   taken-agree (Taking n) e h = absurd (false≢true h)
-  taken-agree (Giving n) e h = next-agree n (isBlock (foundAt (s .tape) (s .drive .head)))
+  taken-agree (Giving n) e h = next-agree n (foundAt (s .tape) (s .drive .head))
   taken-agree (Status k) e h = octet-agree k (ap (λ (q : Phase). octetsIn q (s .port .octets)) (sym e)) (leb k 1)
 
   leaving-agree : (m : Mode) → Agree g g′ (leaving s m) (leaving (seen s) m)

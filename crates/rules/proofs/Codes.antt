@@ -115,6 +115,12 @@ erase-code c e = eqb-true c 34 (code-fits c Erase e)
 pub mark-code : (c : ℕ) → orderOf c ≡ WriteMark → c ≡ 96
 mark-code c e = eqb-true c 96 (code-fits c WriteMark e)
 
+pub read-code : (c : ℕ) → orderOf c ≡ Read → c ≡ 128
+read-code c e = eqb-true c 128 (code-fits c Read e)
+
+pub pass-code : (c : ℕ) → orderOf c ≡ ReadMark → c ≡ 160
+pass-code c e = eqb-true c 160 (code-fits c ReadMark e)
+
 pub status-code : (c : ℕ) → orderOf c ≡ ReadStatus → c ≡ 192
 status-code c e = eqb-true c 192 (code-fits c ReadStatus e)
 

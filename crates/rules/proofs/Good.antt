@@ -31,7 +31,7 @@ use Rattle.rules.specs.declared.event.Act.{Act}
 use Rattle.rules.specs.Drive.{stopping, inMode, made, passedTo, setHead}
 use Rattle.rules.specs.Unit.{atPhase}
 use Rattle.rules.specs.Refusal.{modeFits, possiblePhase}
-use Rattle.rules.specs.Edge.{halted, edged, checked, standing}
+use Rattle.rules.specs.Edge.{halted, spoilt, edged, checked, standing}
 use Rattle.rules.specs.Effect.{Seat, Acted, leaves}
 use Rattle.rules.specs.Bytes.{afterOctet}
 use Rattle.basis.proofs.Choosing.{both, join, not-not}
@@ -62,9 +62,9 @@ fit-stop : (b : Bit) (d : Drive) → Fit d → Fit (stopping b d)
 fit-stop b d f = record { near = f .near; mode = idle-fits (d .mode) (d .loaded) (d .protected) (f .mode) }
 
 halted-fit : (w : Why) (d : Drive) → Fit d → Fit (halted w d)
-halted-fit End d f = fit-stop Ndt d f
-halted-fit Unknown d f = fit-stop Ude d f
-halted-fit Bad d f = fit-stop Ude d f
+halted-fit End d f = let i = fit-idle d f in record { near = i .near; mode = i .mode }
+halted-fit Unknown d f = let i = fit-idle d f in record { near = i .near; mode = i .mode }
+halted-fit Bad d f = let i = fit-idle d f in record { near = i .near; mode = i .mode }
 
 edged-fit : (t : List ℕ) (d : Drive) → length t ≤ longest → Fit d → (e : Found) → foundAt t (d .head) ≡ e → Fit (edged e d)
 edged-fit t d l f Block q = f
@@ -206,7 +206,7 @@ module _ (g : List ℕ) (w512 : length g ≡ 512) (s : Seat) (ok : SoundSeat s) 
   does-good a m (Acts.meets-plug c) = quiet m refl refl refl (record { near = ok .fit .near; mode = ok .fit .mode })
   does-good a m (Acts.finds-no-room c) = quiet m refl refl refl (fit-stop Eom (s .drive) (ok .fit))
   does-good a m (Acts.drops-block b) = quiet m refl refl refl (fit-stop Eom (s .drive) (ok .fit))
-  does-good a m (Acts.finds-no-block n) = quiet m refl refl refl (fit-stop Ude (s .drive) (ok .fit))
+  does-good a m (Acts.finds-no-block k q n) = quiet m refl refl refl (halted-fit (spoilt (foundAt (s .tape) (s .drive .head))) (s .drive) (ok .fit))
   does-good a m (Acts.stages b n l w) =
       record { fit = ok .fit; long = refl; land = stays refl (taking-fits n (s .drive .mode) l w); plug = λ _. refl; slot = λ _. refl }
   does-good a m (Acts.records-block b q w r) = block-good m w r refl refl refl (fit-block r)

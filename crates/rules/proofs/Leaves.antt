@@ -19,13 +19,13 @@ use Rattle.rules.specs.declared.drive.Drive.{Drive}
 use Rattle.rules.specs.declared.drive.Latched.{Latched}
 use Rattle.rules.specs.declared.drive.Mode.the-variants.{Reading}
 use Rattle.rules.specs.declared.drive.Bit.{Bit}
-use Rattle.rules.specs.declared.drive.Bit.the-variants.{Cni, Eom, Ude, Fil, Ill, Ndt, Por}
+use Rattle.rules.specs.declared.drive.Bit.the-variants.{Cni, Eom, Ude, Bnl, Fil, Ill, Ndt, Por}
 use Rattle.rules.specs.declared.phase.Phase.the-variants.{Rest, Taking, Giving}
 use Rattle.rules.specs.declared.event.Act.{Act}
 use Rattle.rules.specs.declared.event.Act.the-variants.{Command, Give, Take, Online, Offline}
 use Rattle.rules.specs.Drive.{withBit, inMode, made, passedTo, writes}
 use Rattle.rules.specs.Phase.{atRest}
-use Rattle.rules.specs.Edge.{isBlock, halted, edged, checked, standing}
+use Rattle.rules.specs.Edge.{isBlock, halted, spoilt, edged, checked, standing}
 use Rattle.rules.specs.Effect.{Seat, Acted, withMark, withBlock}
 use Rattle.rules.specs.Promises.Status.{BitsStay, ReportStays}
 use Rattle.rules.proofs.Acts
@@ -71,16 +71,17 @@ checked-held t d h = edged-held (foundAt t (d .head)) d h
 -- ---- a bit latched leaves the others
 
 bits-same : (k : Latched) → BitsStay k k
-bits-same k = record { cni = λ h. h; eom = λ h. h; ude = λ h. h; fil = λ h. h; ill = λ h. h; ndt = λ h. h; por = λ h. h }
+bits-same k = record { cni = λ h. h; eom = λ h. h; ude = λ h. h; bnl = λ h. h; fil = λ h. h; ill = λ h. h; ndt = λ h. h; por = λ h. h }
 
 bits-more : (b : Bit) (k : Latched) → BitsStay k (withBit b k)
-bits-more Cni k = record { cni = λ h. refl; eom = λ h. h; ude = λ h. h; fil = λ h. h; ill = λ h. h; ndt = λ h. h; por = λ h. h }
-bits-more Eom k = record { cni = λ h. h; eom = λ h. refl; ude = λ h. h; fil = λ h. h; ill = λ h. h; ndt = λ h. h; por = λ h. h }
-bits-more Ude k = record { cni = λ h. h; eom = λ h. h; ude = λ h. refl; fil = λ h. h; ill = λ h. h; ndt = λ h. h; por = λ h. h }
-bits-more Fil k = record { cni = λ h. h; eom = λ h. h; ude = λ h. h; fil = λ h. refl; ill = λ h. h; ndt = λ h. h; por = λ h. h }
-bits-more Ill k = record { cni = λ h. h; eom = λ h. h; ude = λ h. h; fil = λ h. h; ill = λ h. refl; ndt = λ h. h; por = λ h. h }
-bits-more Ndt k = record { cni = λ h. h; eom = λ h. h; ude = λ h. h; fil = λ h. h; ill = λ h. h; ndt = λ h. refl; por = λ h. h }
-bits-more Por k = record { cni = λ h. h; eom = λ h. h; ude = λ h. h; fil = λ h. h; ill = λ h. h; ndt = λ h. h; por = λ h. refl }
+bits-more Cni k = record { cni = λ h. refl; eom = λ h. h; ude = λ h. h; bnl = λ h. h; fil = λ h. h; ill = λ h. h; ndt = λ h. h; por = λ h. h }
+bits-more Eom k = record { cni = λ h. h; eom = λ h. refl; ude = λ h. h; bnl = λ h. h; fil = λ h. h; ill = λ h. h; ndt = λ h. h; por = λ h. h }
+bits-more Ude k = record { cni = λ h. h; eom = λ h. h; ude = λ h. refl; bnl = λ h. h; fil = λ h. h; ill = λ h. h; ndt = λ h. h; por = λ h. h }
+bits-more Bnl k = record { cni = λ h. h; eom = λ h. h; ude = λ h. h; bnl = λ h. refl; fil = λ h. h; ill = λ h. h; ndt = λ h. h; por = λ h. h }
+bits-more Fil k = record { cni = λ h. h; eom = λ h. h; ude = λ h. h; bnl = λ h. h; fil = λ h. refl; ill = λ h. h; ndt = λ h. h; por = λ h. h }
+bits-more Ill k = record { cni = λ h. h; eom = λ h. h; ude = λ h. h; bnl = λ h. h; fil = λ h. h; ill = λ h. refl; ndt = λ h. h; por = λ h. h }
+bits-more Ndt k = record { cni = λ h. h; eom = λ h. h; ude = λ h. h; bnl = λ h. h; fil = λ h. h; ill = λ h. h; ndt = λ h. refl; por = λ h. h }
+bits-more Por k = record { cni = λ h. h; eom = λ h. h; ude = λ h. h; bnl = λ h. h; fil = λ h. h; ill = λ h. h; ndt = λ h. h; por = λ h. refl }
 
 pub report-same : (d e : Drive) → e .latched ≡ d .latched → e .errors ≡ d .errors → e .underruns ≡ d .underruns → ReportStays d e
 report-same d e l x n = record { bits = rw l (bits-same (d .latched)); errors = rw x (omega arith); underruns = rw n (omega arith) }
@@ -93,10 +94,20 @@ pub report-more : (d e : Drive) (b : Bit) → e .latched ≡ withBit b (d .latch
     → ReportStays d e
 report-more d e b l x n = record { bits = rw l (bits-more b (d .latched)); errors = rw x (omega arith); underruns = rw n (omega arith) }
 
+halted-bits : (w : Why) (d : Drive) → BitsStay (d .latched) (halted w d .latched)
+halted-bits End d = record { cni = λ h. cc; eom = λ h. cc; ude = λ h. cc; bnl = λ h. cc; fil = λ h. cc; ill = λ h. cc; ndt = λ h. cc; por = λ h. cc }
+halted-bits Unknown d = record { cni = λ h. cc; eom = λ h. cc; ude = λ h. cc; bnl = λ h. cc; fil = λ h. cc; ill = λ h. cc; ndt = λ h. cc; por = λ h. cc }
+halted-bits Bad d = record { cni = λ h. cc; eom = λ h. cc; ude = λ h. cc; bnl = λ h. cc; fil = λ h. cc; ill = λ h. cc; ndt = λ h. cc; por = λ h. cc }
+
+halted-counts : (w : Why) (d : Drive) → (halted w d .errors ≡ d .errors) × (halted w d .underruns ≡ d .underruns)
+halted-counts End d = (refl, refl)
+halted-counts Unknown d = (refl, refl)
+halted-counts Bad d = (refl, refl)
+
 halted-report : (w : Why) (d : Drive) (h : ℕ) → ReportStays d (halted w (passedTo h d))
-halted-report End d h = report-more d _ Ndt refl refl refl
-halted-report Unknown d h = report-more d _ Ude refl refl refl
-halted-report Bad d h = report-more d _ Ude refl refl refl
+halted-report w d h =
+    let n = halted-counts w (passedTo h d) in
+    record { bits = halted-bits w (passedTo h d); errors = rw (n .0) (omega arith); underruns = rw (n .1) (omega arith) }
 
 standing-report : (r : Passed) (d : Drive) → ReportStays d (standing r d)
 standing-report (Past at) d = report-more d _ Fil refl refl refl
@@ -270,8 +281,9 @@ module _ (g : List ℕ) (s : Seat) where
       handing m (edge m (passedTo (s .drive .head + 513) (s .drive)) refl refl refl refl refl refl) refl refl (λ _. record { place = q; whole = e })
   does-leaf a m (Acts.meets-edge q r) = silent a m (edge m (s .drive) refl refl refl refl (sym r) refl) kept refl refl
       (λ _. record { raised = refl; no-last = λ l. rest-is-not-511 (sym q ∙ l .place) })
-  does-leaf a m (Acts.finds-no-block n) =
-      silent a m (one-bit m Ude refl refl refl refl refl) kept refl refl
+  does-leaf a m (Acts.finds-no-block k q n) =
+      let w = spoilt (foundAt (s .tape) (s .drive .head)) in
+      silent a m (loud m refl (halted-up w (s .drive)) (halted-report w (s .drive) (s .drive .head))) kept refl refl
       (λ _. record { raised = refl; no-last = λ l. true≢false (sym (ap isBlock (l .whole)) ∙ n) })
   does-leaf a m Acts.goes-up = silent a m (as-was m refl refl refl refl refl) kept refl refl (other a m refl)
   does-leaf a m Acts.goes-down = silent a m (as-was m refl refl refl refl refl) kept refl refl (other a m refl)

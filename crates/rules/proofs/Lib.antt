@@ -13,6 +13,9 @@ pub mod Refused
 pub mod Table
 pub mod Illegal
 pub mod Status
+pub mod BadRecords
+pub mod BadActs
+pub mod BadKinds
 pub mod Plug
 pub mod Changes
 pub mod Outcomes

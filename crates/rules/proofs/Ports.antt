@@ -63,7 +63,7 @@ take-ported g s m (Acts.hands-octet k e) = (refl, refl)
 take-ported g s m (Acts.hands-byte n l w e) = (refl, refl)
 take-ported g s m (Acts.hands-last q w e) = (refl, refl)
 take-ported g s m (Acts.meets-edge q r) = (refl, refl)
-take-ported g s m (Acts.finds-no-block n) = (refl, refl)
+take-ported g s m (Acts.finds-no-block k q n) = (refl, refl)
 
 pub online-ported : (g : List ℕ) (s : Seat) (m : Acted) → Acts.Does g s Online m → (m .moved .port .selected ≡ s .port .selected)
     × (m .moved .port .online ≡ true)

@@ -3,7 +3,9 @@ use Prim.Native.Nat.{ℕ, _+_, _≤_}
 use mathlib.Core.Path.{_≡_, refl, sym, ap, subst, _∙_}
 use mathlib.Core.Bool.{Bool, true, false, true≢false}
 use mathlib.Core.List.{List, [], _∷_}
+use native.Mathlib.Omega.{arith}
 use lib.ListN.{set}
+use borrow.Author.Tests.{ne-eqb}
 use Rattle.basis.specs.Choice.{pick}
 use Rattle.tape.specs.Record.{markRecord}
 use Rattle.tape.specs.Recording.{recorded}
@@ -65,27 +67,26 @@ unfolding after turnOf
 pulled-latches w i e q h =
     effect-by (λ s. driveAt (s .turn .core) i .latched .cni ≡ true) (w .core) (w .lent) e (Named i Out) q Raised refl h (λ _. rw put-same)
 
+bit-most : (w : ℕ) (b : Bool) → bit w b ≤ w
+bit-most w true = omega arith
+bit-most w false = omega arith
+
+-- with CNI, whatever bits below its place stand
+shown-over : (x : ℕ) → x ≤ 63 → Shows cni (withTop (64 + x))
+unfolding withTop pick
+shown-over x l = rw (ne-eqb (64 + x) 0 (λ e. omega (arith, e))) (omega (arith, l))
+
 latched-shows : (d : Drive) → d .latched .cni ≡ true → Shows cni (octet0 d)
-unfolding octet0 withTop pick
-latched-shows d h = rw h (go (d .protected) (d .latched .eom) (d .latched .ude) (d .latched .fil))
-  where
-    go : (p m u f : Bool) → Shows 64 (withTop (64 + 0 + bit 16 p + bit 8 m + bit 4 u + 0 + bit 1 f))
-    go true true true true = refl
-    go true true true false = refl
-    go true true false true = refl
-    go true true false false = refl
-    go true false true true = refl
-    go true false true false = refl
-    go true false false true = refl
-    go true false false false = refl
-    go false true true true = refl
-    go false true true false = refl
-    go false true false true = refl
-    go false true false false = refl
-    go false false true true = refl
-    go false false true false = refl
-    go false false false true = refl
-    go false false false false = refl
+unfolding octet0
+latched-shows d h =
+    let p = bit 16 (d .protected) in
+    let m = bit 8 (d .latched .eom) in
+    let u = bit 4 (d .latched .ude) in
+    let n = bit 2 (d .latched .bnl) in
+    let f = bit 1 (d .latched .fil) in
+    let below : p + (m + (u + (n + f))) ≤ 63 =
+    omega (arith, bit-most 16 (d .protected), bit-most 8 (d .latched .eom), bit-most 4 (d .latched .ude), bit-most 2 (d .latched .bnl), bit-most 1 (d .latched .fil)) in
+    rw h (subst (λ (x : ℕ). Shows cni (withTop x)) (omega arith) (shown-over (p + (m + (u + (n + f)))) below))
 
 pub cni-still-shows : CniStillShows
 unfolding after

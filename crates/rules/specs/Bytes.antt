@@ -5,9 +5,10 @@ use mathlib.Core.List.{List}
 use lib.ListN.{length, getD, set}
 use lib.Dec.{ltb, leb}
 use Rattle.basis.specs.Choice.{pick}
+use Rattle.tape.specs.declared.found.Found.{Found}
 use Rattle.tape.specs.Record.{foundAt, bodySize, blockSize}
 use Rattle.rules.specs.declared.drive.Drive.{Drive}
-use Rattle.rules.specs.declared.drive.Bit.the-variants.{Eom, Ude}
+use Rattle.rules.specs.declared.drive.Bit.the-variants.{Eom}
 use Rattle.rules.specs.declared.unit.Port.{Port}
 use Rattle.rules.specs.declared.phase.Phase.{Phase}
 use Rattle.rules.specs.declared.phase.Phase.the-variants.{Rest, Taking, Giving, Status}
@@ -16,7 +17,7 @@ use Rattle.rules.specs.Drive.{stopping, made, passedTo}
 use Rattle.rules.specs.Phase.{lastPlace, reportSize}
 use Rattle.rules.specs.Unit.{atPhase}
 use Rattle.rules.specs.Order.{writeRoom}
-use Rattle.rules.specs.Edge.{isBlock, checked}
+use Rattle.rules.specs.Edge.{isBlock, halted, spoilt, checked}
 use Rattle.rules.specs.Effect.{Seat, Acted, leaves, hands, withBlock, resting}
 
 -- The place of the next byte: as many as came before it, and never past the last.
@@ -62,9 +63,9 @@ handed s n =
 abbrev pub firstTaken : Seat → Checked → Acted
 firstTaken s c = pick (c .raised) (leaves true (resting s) (c .drive) (s .tape)) (handed s 0)
 
--- In the middle of a block the record is looked at anew: where it is no whole block any more, UDE.
-abbrev pub nextTaken : Seat → ℕ → Bool → Acted
-nextTaken s n whole = pick whole (handed s n) (leaves true (resting s) (stopping Ude (s .drive)) (s .tape))
+-- In the middle of a block the record is looked at anew: where it is no whole block any more, it is a bad one.
+abbrev pub nextTaken : Seat → ℕ → Found → Acted
+nextTaken s n f = pick (isBlock f) (handed s n) (leaves true (resting s) (halted (spoilt f) (s .drive)) (s .tape))
 
 -- The place of the next octet where k are outstanding, and the phase after it.
 abbrev pub octetPlace : ℕ → ℕ
@@ -80,5 +81,5 @@ octetTaken s k = hands false (getD (s .port .octets) (octetPlace k) 0) (atPhase 
 abbrev pub byteTaken : Seat → Phase → Acted
 byteTaken s Rest = firstTaken s (checked (s .tape) (s .drive))
 byteTaken s (Taking n) = leaves false (s .port) (s .drive) (s .tape)
-byteTaken s (Giving n) = nextTaken s n (isBlock (foundAt (s .tape) (s .drive .head)))
+byteTaken s (Giving n) = nextTaken s n (foundAt (s .tape) (s .drive .head))
 byteTaken s (Status k) = octetTaken s k

@@ -10,7 +10,7 @@ use Rattle.rules.specs.declared.drive.Underruns.{Underruns}
 use Rattle.rules.specs.declared.drive.Mode.{Mode}
 use Rattle.rules.specs.declared.drive.Mode.the-variants.{Idle, Writing, Reading}
 use Rattle.rules.specs.declared.drive.Bit.{Bit}
-use Rattle.rules.specs.declared.drive.Bit.the-variants.{Cni, Eom, Ude, Fil, Ill, Ndt, Por}
+use Rattle.rules.specs.declared.drive.Bit.the-variants.{Cni, Eom, Ude, Bnl, Fil, Ill, Ndt, Por}
 
 abbrev pub isWriting : Mode → Bool
 isWriting Idle = false
@@ -24,16 +24,17 @@ isReading Reading = true
 
 -- No bit latched, and one more.
 abbrev pub noBits : Latched
-noBits = record { cni = false; eom = false; ude = false; fil = false; ill = false; ndt = false; por = false }
+noBits = record { cni = false; eom = false; ude = false; bnl = false; fil = false; ill = false; ndt = false; por = false }
 
 abbrev pub withBit : Bit → Latched → Latched
-withBit Cni l = record { cni = true; eom = l .eom; ude = l .ude; fil = l .fil; ill = l .ill; ndt = l .ndt; por = l .por }
-withBit Eom l = record { cni = l .cni; eom = true; ude = l .ude; fil = l .fil; ill = l .ill; ndt = l .ndt; por = l .por }
-withBit Ude l = record { cni = l .cni; eom = l .eom; ude = true; fil = l .fil; ill = l .ill; ndt = l .ndt; por = l .por }
-withBit Fil l = record { cni = l .cni; eom = l .eom; ude = l .ude; fil = true; ill = l .ill; ndt = l .ndt; por = l .por }
-withBit Ill l = record { cni = l .cni; eom = l .eom; ude = l .ude; fil = l .fil; ill = true; ndt = l .ndt; por = l .por }
-withBit Ndt l = record { cni = l .cni; eom = l .eom; ude = l .ude; fil = l .fil; ill = l .ill; ndt = true; por = l .por }
-withBit Por l = record { cni = l .cni; eom = l .eom; ude = l .ude; fil = l .fil; ill = l .ill; ndt = l .ndt; por = true }
+withBit Cni l = record { cni = true; eom = l .eom; ude = l .ude; bnl = l .bnl; fil = l .fil; ill = l .ill; ndt = l .ndt; por = l .por }
+withBit Eom l = record { cni = l .cni; eom = true; ude = l .ude; bnl = l .bnl; fil = l .fil; ill = l .ill; ndt = l .ndt; por = l .por }
+withBit Ude l = record { cni = l .cni; eom = l .eom; ude = true; bnl = l .bnl; fil = l .fil; ill = l .ill; ndt = l .ndt; por = l .por }
+withBit Bnl l = record { cni = l .cni; eom = l .eom; ude = l .ude; bnl = true; fil = l .fil; ill = l .ill; ndt = l .ndt; por = l .por }
+withBit Fil l = record { cni = l .cni; eom = l .eom; ude = l .ude; bnl = l .bnl; fil = true; ill = l .ill; ndt = l .ndt; por = l .por }
+withBit Ill l = record { cni = l .cni; eom = l .eom; ude = l .ude; bnl = l .bnl; fil = l .fil; ill = true; ndt = l .ndt; por = l .por }
+withBit Ndt l = record { cni = l .cni; eom = l .eom; ude = l .ude; bnl = l .bnl; fil = l .fil; ill = l .ill; ndt = true; por = l .por }
+withBit Por l = record { cni = l .cni; eom = l .eom; ude = l .ude; bnl = l .bnl; fil = l .fil; ill = l .ill; ndt = l .ndt; por = true }
 
 -- A record by its parts: cartridge and plug; head; mode; EXCEPTION and latched bits; both counts.
 abbrev pub drive : Bool → Bool → ℕ → Mode → Bool → Latched → Errors → Underruns → Drive

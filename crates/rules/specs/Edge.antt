@@ -10,20 +10,28 @@ use Rattle.tape.specs.declared.pass.Passed.{Passed}
 use Rattle.tape.specs.declared.pass.Passed.the-variants.{Past, Stopped}
 use Rattle.tape.specs.Record.{foundAt, markSize}
 use Rattle.rules.specs.declared.drive.Drive.{Drive}
-use Rattle.rules.specs.declared.drive.Bit.the-variants.{Ude, Fil, Ndt}
+use Rattle.rules.specs.declared.drive.Bit.the-variants.{Ude, Bnl, Fil, Ndt}
 use Rattle.rules.specs.declared.order.Checked.{Checked}
-use Rattle.rules.specs.Drive.{stopping, passedTo}
+use Rattle.rules.specs.Drive.{latching, stopping, passedTo}
 
 abbrev pub isBlock : Found → Bool
 isBlock Block = true
 isBlock Mark = false
 isBlock (Stop w) = false
 
--- Where there is no record to go on with: the bit tells why, and the drive is Idle.
+-- Where there is no record to go on with: the bit tells why, and the drive is Idle. A kind that nobody knows latches UDE and BNL, every other bad record UDE alone.
 abbrev pub halted : Why → Drive → Drive
 halted End d = stopping Ndt d
-halted Unknown d = stopping Ude d
+halted Unknown d = latching Bnl (stopping Ude d)
 halted Bad d = stopping Ude d
+
+-- In the middle of a block all but a whole block is a bad record, the end of data and a mark too; only a kind that nobody knows is told apart.
+abbrev pub spoilt : Found → Why
+spoilt Block = Bad
+spoilt Mark = Bad
+spoilt (Stop End) = Bad
+spoilt (Stop Unknown) = Unknown
+spoilt (Stop Bad) = Bad
 
 -- What stands at the head decides: only a block lets a drive go on; a mark is passed and reported.
 abbrev pub edged : Found → Drive → Drive

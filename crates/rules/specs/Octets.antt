@@ -63,7 +63,7 @@ bit weight false = 0
 unfoldable pub withTop : ℕ → ℕ
 withTop rest = pick (eqb rest 0) 0 (top + rest)
 
--- Octet 0 from ST0 down, a line for each bit: CNI also shows an empty slot, WRP the plug; two are never set.
+-- Octet 0 from ST0 down, a line for each bit: CNI also shows an empty slot, WRP the plug; USL is never set.
 unfoldable pub octet0 : Drive → ℕ
 octet0 d =
     withTop
@@ -72,7 +72,7 @@ octet0 d =
     + bit wrp (d .protected)
     + bit eom (d .latched .eom)
     + bit ude (d .latched .ude)
-    + bit bnl false
+    + bit bnl (d .latched .bnl)
     + bit fil (d .latched .fil))
 
 -- Octet 1 from ST1 down: BOM shows a cartridge that stands at its beginning; three are never set.

@@ -4,6 +4,7 @@ pub mod Table
 pub mod Refused
 pub mod Orders
 pub mod Status
+pub mod BadKinds
 pub mod Possible
 pub mod Plug
 pub mod Changes

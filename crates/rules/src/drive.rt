@@ -37,6 +37,7 @@ pub enum Bit {
     Cni,
     Eom,
     Ude,
+    Bnl,
     Fil,
     Ill,
     Ndt,
@@ -47,6 +48,7 @@ pub struct Latched {
     pub cni: bool,
     pub eom: bool,
     pub ude: bool,
+    pub bnl: bool,
     pub fil: bool,
     pub ill: bool,
     pub ndt: bool,
@@ -78,6 +80,7 @@ impl Latched {
             cni: false,
             eom: false,
             ude: false,
+            bnl: false,
             fil: false,
             ill: false,
             ndt: false,
@@ -98,6 +101,9 @@ impl Latched {
             }
             Bit::Ude => {
                 l.ude = true;
+            }
+            Bit::Bnl => {
+                l.bnl = true;
             }
             Bit::Fil => {
                 l.fil = true;

@@ -15,7 +15,7 @@ use Rattle.tape.specs.declared.pass.Passed.{Passed}
 use Rattle.tape.specs.declared.pass.Passed.the-variants.{Past, Stopped}
 use Rattle.tape.specs.declared.pass.Way.{Way}
 use Rattle.tape.specs.Walk.{Trail, endOf, block, mark, stop, walk, trail, startOf, pastMarks, marksPast, recordsPast, wayPast}
-use Rattle.tape.specs.Laws.{off-tape, TrailBlock, TrailMark, TrailStop, TrailStart, Walks, over-block, over-mark, at-stop, TrailWalks, PassedWithin}
+use Rattle.tape.specs.Laws.{off-tape, TrailBlock, TrailMark, TrailStop, TrailStart, Walks, over-block, over-mark, at-stop, TrailWalks, PassedWithin, PassedStops}
 use Rattle.tape.proofs.Standing.{case-found, block-fits, mark-fits}
 
 walk-off : (t : List ℕ) (n h : ℕ) → length t < h → walk t n h ≡ stop h Bad
@@ -81,6 +81,15 @@ way-within t h b (at-stop e) l p = p
 
 pub passed-within : PassedWithin
 passed-within t h b l p = way-within t h b (trail-way t h) l p
+
+way-stops : (t : List ℕ) (h : ℕ) {r : Trail} → Walks t h r → (n at : ℕ) (w : Why) → pastMarks n r ≡ Stopped at w → foundAt t at ≡ Stop w
+way-stops t h k zero at w q = cc
+way-stops t h (over-block e k) (suc n) at w q = way-stops t (h + 513) k (suc n) at w q
+way-stops t h (over-mark e k) (suc n) at w q = way-stops t (h + 1) k n at w q
+way-stops t h (at-stop e) (suc n) at w q = cc
+
+pub passed-stops : PassedStops
+passed-stops t h n at w q = way-stops t h (trail-way t h) n at w q
 
 -- A way past n marks that goes on as one past k marks, with so many marks and one record passed in between.
 pub record Over (n k marks : ℕ) (r s : Trail) : Type 0 where

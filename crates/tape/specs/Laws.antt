@@ -7,11 +7,12 @@ use Rattle.tape.specs.declared.found.Found.{Found}
 use Rattle.tape.specs.declared.found.Found.the-variants.{Block, Mark, Stop}
 use Rattle.tape.specs.declared.found.Why.{Why}
 use Rattle.tape.specs.declared.found.Why.the-variants.{End, Unknown, Bad}
+use Rattle.tape.specs.declared.pass.Passed.the-variants.{Stopped}
 use Rattle.tape.specs.declared.record.Made.{Made}
 use Rattle.tape.specs.declared.record.Made.the-variants.{Next, NoRoom}
 use Rattle.tape.specs.Record.{endKind, blockKind, markKind, bodySize, blockSize, markSize, markRecord, blockRecord, foundAt}
 use Rattle.tape.specs.Recording.{recorded, written, writtenAt}
-use Rattle.tape.specs.Walk.{Trail, block, mark, stop, trail, startOf, passed, endOf}
+use Rattle.tape.specs.Walk.{Trail, block, mark, stop, trail, startOf, pastMarks, passed, endOf}
 
 -- What stands at an offset, case by case, with the bytes that make each case.
 pub data Stands (t : List ℕ) (h : ℕ) : Found → Type 0 where
@@ -87,6 +88,10 @@ TrailWalks = (t : List ℕ) (h : ℕ) → Walks t h (trail t h)
 -- Passing ends on the tape, or where it began.
 abbrev pub PassedWithin : Type 0
 PassedWithin = (t : List ℕ) (h b : ℕ) → length t ≤ b → h ≤ b → endOf (passed t h) ≤ b
+
+-- Where passing stopped there is no record, and for that reason.
+abbrev pub PassedStops : Type 0
+PassedStops = (t : List ℕ) (h n at : ℕ) (w : Why) → pastMarks n (trail t h) ≡ Stopped at w → foundAt t at ≡ Stop w
 
 -- What an answer says: `Next` that the record has room, where it ends and that the tape has it; `NoRoom` that it has none and the tape is as found.
 pub record WasMade (t : List ℕ) (h n spare : ℕ) (rec : List ℕ) (next : ℕ) (t′ : List ℕ) : Type 0 where

@@ -16,6 +16,7 @@ use Rattle.rules.specs.Promises.Table.{answerTo}
 use Rattle.rules.specs.Promises.Refused.{AsFound, ByteRules}
 use Rattle.rules.specs.Promises.Orders.{IllegalRules}
 use Rattle.rules.specs.Promises.Status.{ByStatus}
+use Rattle.rules.specs.Promises.BadKinds.{KindTold}
 use Rattle.rules.specs.Promises.Changes.{Happens}
 use Rattle.rules.specs.Promises.Changes
 use Rattle.rules.specs.Promises.Strike.{recording, reading, passing, bytesOf}
@@ -25,6 +26,7 @@ use Rattle.rules.proofs.Table.{answers-by-the-table}
 use Rattle.rules.proofs.Refused.{refused-keeps, bytes-exactly}
 use Rattle.rules.proofs.Illegal.{illegal-exactly}
 use Rattle.rules.proofs.Status.{exception-falls}
+use Rattle.rules.proofs.BadKinds.{kinds-told}
 use Rattle.rules.proofs.Keeps.{protected-keeps}
 use Rattle.rules.proofs.Plug.{other-tapes-stay, other-drives-stay}
 use Rattle.rules.proofs.Changes.{one-change, recording-happens}
@@ -103,6 +105,7 @@ by-the-rules c l event r l′ w p =
     record {
       illegal = λ k q. of (λ s. rowOf (s .turn .answer) .refuses ≡ false → IllegalRules c l k s) (illegal-exactly c l event k w q);
       exception = λ i h up. of (λ s. driveAt (s .turn .core) i .exception ≡ false → ByStatus c event i) (exception-falls c l event i h w up);
+      kind = of (KindTold c l event) (kinds-told c l event w);
       bytes = of (ByteRules c l event) (bytes-exactly c l event w);
       plug = λ i h q. of (λ s. tapeAt (s .lent) i ≡ tapeAt l i) (protected-keeps c l event i h w q);
       cable = λ i h q. of (λ s. tapeAt (s .lent) i ≡ tapeAt l i) (other-tapes-stay c l event i h w q);

@@ -21,6 +21,7 @@ use Rattle.rules.specs.Promises.Table.{answerTo, Table}
 use Rattle.rules.specs.Promises.Refused.{AsFound, ByteRules}
 use Rattle.rules.specs.Promises.Orders.{IllegalRules}
 use Rattle.rules.specs.Promises.Status.{ByStatus}
+use Rattle.rules.specs.Promises.BadKinds.{KindTold}
 use Rattle.rules.specs.Promises.Plug.{meansDrive}
 use Rattle.rules.specs.Promises.Changes.{Happens}
 use Rattle.rules.specs.Promises.Changes
@@ -89,6 +90,8 @@ module _ (c : Core) (l : Lent) (event : List ℕ) (r : Turn) (l′ : Lent) where
     pub illegal : (k : ℕ) → eventOf event ≡ Own (Command k) → rowOf (r .answer) .refuses ≡ false → IllegalRules c l k (stepped r l′)
     -- A drive's EXCEPTION falls only by READ STATUS.
     pub exception : (i : ℕ) → i ≤ 3 → driveAt c i .exception ≡ true → driveAt (r .core) i .exception ≡ false → ByStatus c event i
+    -- UDE by its rules, and BNL with it exactly where nobody knows the kind at the head.
+    pub kind : KindTold c l event (stepped r l′)
     -- A byte comes with event 03 answered 0, and besides as byte 512; and so it does not come otherwise.
     pub bytes : ByteRules c l event (stepped r l′)
     -- The plug, then the cable: a protected tape stays, and so does every one but the selected drive's.

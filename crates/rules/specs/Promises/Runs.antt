@@ -69,9 +69,10 @@ starred =
     -- room for just one block, and a byte less
     ∷ case (replicate 1541 0) (ready ++ (online ++ (command 64 ++ giving 512 7))) 136 0 (1 ∷ (replicate 512 7 ++ replicate 1028 0))
     ∷ case (replicate 1540 0) (ready ++ (online ++ command 64)) 136 136 (replicate 1540 0)
-    -- a mark passed, and an unknown kind behind it
+    -- a mark passed, an unknown kind behind it, and one at the beginning
     ∷ case (2 ∷ replicate 15 0) (ready ++ (online ++ command 160)) 129 0 (2 ∷ replicate 15 0)
-    ∷ case (2 ∷ 7 ∷ replicate 14 0) (ready ++ (online ++ (command 160 ++ (report ++ command 128)))) 132 0 (2 ∷ 7 ∷ replicate 14 0)
+    ∷ case (2 ∷ 7 ∷ replicate 14 0) (ready ++ (online ++ (command 160 ++ (report ++ command 128)))) 134 0 (2 ∷ 7 ∷ replicate 14 0)
+    ∷ case (7 ∷ replicate 15 0) (ready ++ (online ++ command 128)) 134 136 (7 ∷ replicate 15 0)
     ∷ []
 
 -- What the run of a case shows: the first two bytes that the report hands out, and the tape.

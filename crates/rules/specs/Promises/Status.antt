@@ -52,6 +52,7 @@ pub record BitsStay (k l : Latched) : Type 0 where
   pub cni : k .cni ≡ true → l .cni ≡ true
   pub eom : k .eom ≡ true → l .eom ≡ true
   pub ude : k .ude ≡ true → l .ude ≡ true
+  pub bnl : k .bnl ≡ true → l .bnl ≡ true
   pub fil : k .fil ≡ true → l .fil ≡ true
   pub ill : k .ill ≡ true → l .ill ≡ true
   pub ndt : k .ndt ≡ true → l .ndt ≡ true

@@ -24,9 +24,6 @@ element-copy-out-result c = search needs
 element-copy-out-result-2 : tie.Need-element-copy-out-result-2
 element-copy-out-result-2 c = search needs
 
-element-copy-out-result-3 : tie.Need-element-copy-out-result-3
-element-copy-out-result-3 c = search needs
-
 element-copy-out-of-two : tie.Need-element-copy-out-of-two
 element-copy-out-of-two c = search needs
 
@@ -37,7 +34,7 @@ of-two-requires : tie.Need-of-two-requires
 of-two-requires c κs = search needs
 
 returns : tie.Need-returns
-returns c = rw (c .of-two .ensures, c .before .before .before .before .before .before .of-four .ensures)
+returns c = rw (c .of-two .ensures, c .before .before .before .before .before .of-four .ensures)
 
 pub leaves-room-spec : {M : Type 1} → statement M
 leaves-room-spec =
@@ -50,7 +47,6 @@ leaves-room-spec =
     of-four-requires
     element-copy-out-result
     element-copy-out-result-2
-    element-copy-out-result-3
     element-copy-out-of-two
     element-copy-out-of-two-2
     of-two-requires

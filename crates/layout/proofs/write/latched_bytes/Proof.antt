@@ -24,18 +24,22 @@ flag-requires-6 c κs = search needs
 flag-requires-7 : tie.Need-flag-requires-7
 flag-requires-7 c κs = search needs
 
+flag-requires-8 : tie.Need-flag-requires-8
+flag-requires-8 c κs = search needs
+
 returns : tie.Need-returns
 returns c =
     let fil = c .before .before .before in
-    let cni = fil .before .before .before in
+    let ude = fil .before .before in
     rw (
-      c .flag7 .ensures,
-      c .before .flag6 .ensures,
-      c .before .before .flag5 .ensures,
-      fil .flag4 .ensures,
-      fil .before .flag3 .ensures,
-      fil .before .before .flag2 .ensures,
-      cni .flag .ensures,
+      c .flag8 .ensures,
+      c .before .flag7 .ensures,
+      c .before .before .flag6 .ensures,
+      fil .flag5 .ensures,
+      fil .before .flag4 .ensures,
+      ude .flag3 .ensures,
+      ude .before .flag2 .ensures,
+      ude .before .before .flag .ensures,
     )
 
 pub latched-bytes-spec : {M : Type 1} → statement M
@@ -49,4 +53,5 @@ latched-bytes-spec =
     flag-requires-5
     flag-requires-6
     flag-requires-7
+    flag-requires-8
     returns)

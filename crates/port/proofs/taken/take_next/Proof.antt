@@ -15,8 +15,11 @@ hand-requires c κs =
     let a = c .before .before .before .before .args in
     whole (a .tape .now) (a .drive .head) (rw (← c .before .before .found-at .ensures, ← c .before .is-block .ensures) (c .if1 .taken))
 
-stop-requires : tie.Need-stop-requires
-stop-requires c κs = search needs
+spoilt-requires : tie.Need-spoilt-requires
+spoilt-requires c κs = search needs
+
+halt-requires : tie.Need-halt-requires
+halt-requires c κs = search needs
 
 rests-requires : tie.Need-rests-requires
 rests-requires c κs = search needs
@@ -28,8 +31,9 @@ returns c = rw (c .hand .ensures, ← c .before .before .before .found-at .ensur
 returns-2 : tie.Need-returns-2
 unfolding pick
 returns-2 c =
-    rw (c .rests .ensures, c .before .stop .ensures)
-    (rw (← c .before .before .before .before .found-at .ensures, ← c .before .before .before .is-block .ensures, c .before .before .if1 .left))
+    let found = c .before .before .before .before .before .found-at .ensures in
+    rw (c .rests .ensures, c .before .halt .ensures, c .before .before .spoilt .ensures, ← found)
+    (rw (← c .before .before .before .before .is-block .ensures, c .before .before .before .if1 .left))
 
 pub take-next-spec : {M : Type 1} → statement M
 take-next-spec =
@@ -38,7 +42,8 @@ take-next-spec =
     found-at-requires
     is-block-requires
     hand-requires
-    stop-requires
+    spoilt-requires
+    halt-requires
     rests-requires
     returns
     returns-2)

@@ -3,6 +3,7 @@ use Prim.Native.Nat.{ℕ, _+_}
 use mathlib.Core.List.{List, [], _∷_, _++_, map}
 use lib.ListN.{replicate}
 use Rattle.rules.specs.declared.drive.Drive.{Drive}
+use Rattle.rules.specs.declared.drive.Latched.{Latched}
 use Rattle.rules.specs.declared.drive.Mode.the-variants.{Idle, Writing, Reading}
 use Rattle.rules.specs.declared.phase.Phase.{Phase}
 use Rattle.rules.specs.declared.phase.Phase.the-variants.{Rest, Taking, Giving, Status}
@@ -10,7 +11,7 @@ use Rattle.rules.specs.declared.answer.Lines.{Lines}
 use Rattle.rules.specs.Run.{World}
 use Rattle.rules.specs.Promises.Events.{give, fetch}
 use Rattle.rules.specs.Promises.Sentences.Form.{says, hands, R, RD, E, ED, D, O, Case, rows, row}
-use Rattle.rules.specs.Promises.Sentences.Scene.{up, low, none, cni, eom, ude, quiet, loud, ramp, block, odd, lead, oldOctets}
+use Rattle.rules.specs.Promises.Sentences.Scene.{up, low, none, cni, eom, ude, bnl, also, quiet, loud, ramp, block, odd, lead, oldOctets}
 use Rattle.rules.specs.Promises.Sentences.Scene.{port, among, scene, gone, free, plugged}
 use Rattle.rules.specs.Promises.Sentences.Orders.{Edge, edges, met}
 
@@ -93,19 +94,24 @@ nothingThere =
     row (reader Rest 10 odd) fetch (says 1 E) (scene up Rest (loud free 10 Idle ude) odd)
     ∷ map (λ (e : Edge). row (reader Rest 5 (lead ++ e .bytes)) fetch (says 1 E) (met e 5 lead)) edges
 
--- In the middle of a block whose record is no whole block any more: UDE, Rest, Idle, no byte, and the head stays.
-abbrev pub spoilt : ℕ → ℕ → List ℕ → Case
-spoilt n h t = row (reader (Giving n) h t) fetch (says 1 E) (scene up Rest (loud free h Idle ude) t)
+-- In the middle of a block whose record is no whole block any more: the bits, Rest, Idle, no byte, and the head stays.
+abbrev pub spoilt : Latched → ℕ → ℕ → List ℕ → Case
+spoilt k n h t = row (reader (Giving n) h t) fetch (says 1 E) (scene up Rest (loud free h Idle k) t)
 
 abbrev pub spoiling : List Case
 spoiling =
-    spoilt 3 5 (lead ++ (2 ∷ ramp 512 3))
-    ∷ spoilt 3 5 (lead ++ (0 ∷ ramp 512 3))
-    ∷ spoilt 3 5 (lead ++ (3 ∷ ramp 512 3))
-    ∷ spoilt 3 5 (lead ++ (1 ∷ ramp 511 3))
-    ∷ spoilt 511 5 (lead ++ (2 ∷ ramp 512 3))
-    ∷ spoilt 3 9 odd
-    ∷ spoilt 3 10 odd
+    -- a mark, the end of data by its kind and by the tape's end, a block too long, a head above L: UDE alone
+    spoilt ude 3 5 (lead ++ (2 ∷ ramp 512 3))
+    ∷ spoilt ude 3 5 (lead ++ (0 ∷ ramp 512 3))
+    ∷ spoilt ude 3 5 (lead ++ (1 ∷ ramp 511 3))
+    ∷ spoilt ude 511 5 (lead ++ (2 ∷ ramp 512 3))
+    ∷ spoilt ude 3 8 odd
+    ∷ spoilt ude 3 9 odd
+    ∷ spoilt ude 3 10 odd
+    -- a kind that nobody knows, with or without room for a block: UDE and BNL
+    ∷ spoilt (also ude bnl) 3 5 (lead ++ (3 ∷ ramp 512 3))
+    ∷ spoilt (also ude bnl) 511 5 (lead ++ (255 ∷ ramp 512 3))
+    ∷ spoilt (also ude bnl) 1 6 odd
     ∷ []
 
 -- Byte 512: the head past the block, Rest, and the edge check, whose exception comes with the byte.

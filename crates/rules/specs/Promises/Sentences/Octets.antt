@@ -7,7 +7,7 @@ use Rattle.rules.specs.declared.drive.Mode.the-variants.{Idle, Reading}
 use Rattle.rules.specs.declared.phase.Phase.the-variants.{Rest, Status}
 use Rattle.rules.specs.Promises.Events.{command, fetch, error, underrun}
 use Rattle.rules.specs.Promises.Sentences.Form.{says, hands, RD, Case, rows, row}
-use Rattle.rules.specs.Promises.Sentences.Scene.{up, none, all, cni, eom, ude, fil, ill, ndt, por, Slot, full, odd, oldStaging, port, among}
+use Rattle.rules.specs.Promises.Sentences.Scene.{up, none, all, cni, eom, ude, bnl, fil, ill, ndt, por, Slot, full, odd, oldStaging, port, among}
 use Rattle.rules.specs.Promises.Sentences.Scene.{scene, gone, free, plugged}
 
 -- A drive with this cartridge, head, bits and counters tells these six octets.
@@ -20,10 +20,11 @@ tells s h k a b o =
 abbrev pub bits : List Case
 bits =
     tells free 5 none 0 0 (0 ∷ 0 ∷ 0 ∷ 0 ∷ 0 ∷ 0 ∷ [])
-    -- octet 0: CNI, EOM, UDE, FIL latched
+    -- octet 0: CNI, EOM, UDE, BNL, FIL latched
     ∷ tells free 5 cni 0 0 (192 ∷ 0 ∷ 0 ∷ 0 ∷ 0 ∷ 0 ∷ [])
     ∷ tells free 5 eom 0 0 (136 ∷ 0 ∷ 0 ∷ 0 ∷ 0 ∷ 0 ∷ [])
     ∷ tells free 5 ude 0 0 (132 ∷ 0 ∷ 0 ∷ 0 ∷ 0 ∷ 0 ∷ [])
+    ∷ tells free 5 bnl 0 0 (130 ∷ 0 ∷ 0 ∷ 0 ∷ 0 ∷ 0 ∷ [])
     ∷ tells free 5 fil 0 0 (129 ∷ 0 ∷ 0 ∷ 0 ∷ 0 ∷ 0 ∷ [])
     -- octet 1: ILL, NDT, POR latched
     ∷ tells free 5 ill 0 0 (0 ∷ 192 ∷ 0 ∷ 0 ∷ 0 ∷ 0 ∷ [])
@@ -37,8 +38,8 @@ bits =
     ∷ tells free 0 none 0 0 (0 ∷ 136 ∷ 0 ∷ 0 ∷ 0 ∷ 0 ∷ [])
     ∷ tells free 1 none 0 0 (0 ∷ 0 ∷ 0 ∷ 0 ∷ 0 ∷ 0 ∷ [])
     ∷ tells gone 0 none 0 0 (192 ∷ 0 ∷ 0 ∷ 0 ∷ 0 ∷ 0 ∷ [])
-    -- all at once: USL, BNL, MBD, BPE, ERM stay 0
-    ∷ tells plugged 0 all 0 0 (221 ∷ 233 ∷ 0 ∷ 0 ∷ 0 ∷ 0 ∷ [])
+    -- all at once: USL, MBD, BPE, ERM stay 0
+    ∷ tells plugged 0 all 0 0 (223 ∷ 233 ∷ 0 ∷ 0 ∷ 0 ∷ 0 ∷ [])
     ∷ []
 
 -- Octets 2, 3: errors, high octet first; 4, 5: underruns; no sum of them.
@@ -57,7 +58,7 @@ wholeReport =
     rows (scene up Rest (full plugged 0 Reading true all 258 515) odd)
     (command 192 ∷ fetch ∷ fetch ∷ underrun 2 ∷ error 2 ∷ error 2 ∷ fetch ∷ fetch ∷ fetch ∷ fetch ∷ command 192 ∷ fetch ∷ [])
     (says 0 RD
-    ∷ hands 0 221 RD
+    ∷ hands 0 223 RD
     ∷ hands 0 233 RD
     ∷ says 0 RD
     ∷ says 0 RD

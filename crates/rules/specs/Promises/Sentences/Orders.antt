@@ -12,7 +12,7 @@ use Rattle.rules.specs.declared.answer.Lines.{Lines}
 use Rattle.rules.specs.Run.{World}
 use Rattle.rules.specs.Promises.Events.{joined, command}
 use Rattle.rules.specs.Promises.Sentences.Form.{says, R, RD, E, Case, row}
-use Rattle.rules.specs.Promises.Sentences.Scene.{up, low, latched, none, all, cni, eom, ude, fil, ill, ndt, also, full, quiet, loud, ramp}
+use Rattle.rules.specs.Promises.Sentences.Scene.{up, low, none, all, cni, eom, ude, bnl, fil, ill, ndt, also, allBut, full, quiet, loud, ramp}
 use Rattle.rules.specs.Promises.Sentences.Scene.{block, odd, lead, oldOctets, oldStaging, port, among, scene, gone, free, plugged}
 
 -- A command at Rest: level, code, record and tape before; answer and lines; record and tape after.
@@ -141,9 +141,11 @@ edges =
     -- end of data, by kind 00 and by the tape's end: NDT
     ∷ edge (0 ∷ 2 ∷ []) ndt 0
     ∷ edge [] ndt 0
-    -- another kind, and a block that runs past the end by one byte: UDE
-    ∷ edge (3 ∷ 2 ∷ []) ude 0
-    ∷ edge (255 ∷ 2 ∷ []) ude 0
+    -- a kind that nobody knows, also where the tape ends with it: UDE and BNL
+    ∷ edge (3 ∷ 2 ∷ []) (also ude bnl) 0
+    ∷ edge (255 ∷ ramp 512 2) (also ude bnl) 0
+    ∷ edge (7 ∷ []) (also ude bnl) 0
+    -- a block that runs past the end by one byte, or by all but its kind: UDE alone
     ∷ edge (1 ∷ ramp 511 2) ude 0
     ∷ edge (1 ∷ []) ude 0
     ∷ []
@@ -186,22 +188,24 @@ status =
     ∷ reports low (quiet plugged 5 Idle) 144 0 (full plugged 5 Idle false none 0 0)
     ∷ reports low (quiet gone 5 Idle) 192 0 (full gone 5 Idle false none 0 0)
     ∷ reports up (loud free 5 Writing eom) 136 0 (full free 5 Writing false none 0 0)
-    ∷ reports up (loud free 5 Reading all) 205 225 (full free 5 Reading false none 0 0)
+    ∷ reports up (loud free 5 Reading all) 207 225 (full free 5 Reading false none 0 0)
     ∷ reports low (loud gone 5 Idle none) 192 0 (full gone 5 Idle false none 0 0)
     ∷ []
 
--- A bit that is latched joins those that stand: each from a record that has the six others.
+-- A bit that is latched joins those that stand: each from a record that has all others; UDE and BNL also two at once, and UDE without BNL.
 abbrev pub joins : Latched → ℕ → ℕ → List ℕ → ℕ → Case
 joins but c h t h′ = told up c (full free h Idle false but 258 515) t 1 E (loud free h′ Idle all) t
 
 abbrev pub bitsStay : List Case
 bitsStay =
-    joins (latched true false true true true true true) 96 9 odd 9
-    ∷ joins (latched true true false true true true true) 128 10 odd 10
-    ∷ joins (latched true true true false true true true) 128 5 (lead ++ (2 ∷ [])) 6
-    ∷ joins (latched true true true true false true true) 0 5 odd 5
-    ∷ joins (latched true true true true true false true) 128 5 lead 5
-    ∷ told up 33 (full gone 5 Idle false (latched false true true true true true true) 258 515) odd 1 E (loud gone 5 Idle all) odd
-    ∷ told up 34 (full plugged 5 Idle false (latched true false true false true false true) 258 515) odd 1 E
-    (loud plugged 5 Idle (latched true false true false true false true)) odd
+    joins (allBut eom) 96 9 odd 9
+    ∷ joins (allBut ude) 128 10 odd 10
+    ∷ joins (allBut bnl) 128 6 odd 6
+    ∷ joins (allBut (also ude bnl)) 128 6 odd 6
+    ∷ told up 128 (full free 8 Idle false (allBut (also ude bnl)) 258 515) odd 1 E (loud free 8 Idle (allBut bnl)) odd
+    ∷ joins (allBut fil) 128 5 (lead ++ (2 ∷ [])) 6
+    ∷ joins (allBut ill) 0 5 odd 5
+    ∷ joins (allBut ndt) 128 5 lead 5
+    ∷ told up 33 (full gone 5 Idle false (allBut cni) 258 515) odd 1 E (loud gone 5 Idle all) odd
+    ∷ told up 34 (full plugged 5 Idle false (allBut (also eom (also bnl ill))) 258 515) odd 1 E (loud plugged 5 Idle (allBut (also eom (also bnl ill)))) odd
     ∷ []

@@ -17,7 +17,7 @@ use Rattle.rules.specs.Refusal.{short, refusalBy}
 use Rattle.rules.specs.Run.{World}
 use Rattle.rules.specs.Promises.Events.{joined, command, give, restart, fetch, rise, fall, cartridge, pull, error, underrun}
 use Rattle.rules.specs.Promises.Sentences.Form.{R, RD, E, ED, D, O, Case, still}
-use Rattle.rules.specs.Promises.Sentences.Scene.{up, low, latched, none, quiet, loud, odd, oldOctets, oldStaging, port, among, scene, gone}
+use Rattle.rules.specs.Promises.Sentences.Scene.{up, low, none, quiet, loud, odd, oldOctets, oldStaging, port, among, scene, gone}
 use Rattle.rules.specs.Promises.Sentences.Scene.{free, plugged, lentAs}
 
 -- The answers: the number of each, whether it leaves all as found, whether the lines go down, whether a byte can come with it.

@@ -1,6 +1,6 @@
 -- What is there at the start and at the end of a run: records and tapes written out, and none of the moves that the rules use.
 use Prim.Native.Nat.{ℕ, zero, suc, _+_, _%_}
-use mathlib.Core.Bool.{Bool, true, false, _||_}
+use mathlib.Core.Bool.{Bool, true, false, not, _||_}
 use mathlib.Core.List.{List, [], _∷_}
 use lib.Dec.{eqb}
 use Rattle.basis.specs.Choice.{pick}
@@ -20,41 +20,47 @@ up = true
 abbrev pub low : Bool
 low = false
 
--- Latched bits: none, each alone, and those of two together.
-abbrev pub latched : Bool → Bool → Bool → Bool → Bool → Bool → Bool → Latched
-latched c e u f i n p = record { cni = c; eom = e; ude = u; fil = f; ill = i; ndt = n; por = p }
+-- Latched bits: none, all, each alone, those of two together, and all but some.
+abbrev pub latched : Bool → Bool → Bool → Bool → Bool → Bool → Bool → Bool → Latched
+latched c e u b f i n p = record { cni = c; eom = e; ude = u; bnl = b; fil = f; ill = i; ndt = n; por = p }
 
 abbrev pub none : Latched
-none = latched false false false false false false false
+none = latched false false false false false false false false
 
 abbrev pub all : Latched
-all = latched true true true true true true true
+all = latched true true true true true true true true
 
 abbrev pub cni : Latched
-cni = latched true false false false false false false
+cni = latched true false false false false false false false
 
 abbrev pub eom : Latched
-eom = latched false true false false false false false
+eom = latched false true false false false false false false
 
 abbrev pub ude : Latched
-ude = latched false false true false false false false
+ude = latched false false true false false false false false
+
+abbrev pub bnl : Latched
+bnl = latched false false false true false false false false
 
 abbrev pub fil : Latched
-fil = latched false false false true false false false
+fil = latched false false false false true false false false
 
 abbrev pub ill : Latched
-ill = latched false false false false true false false
+ill = latched false false false false false true false false
 
 abbrev pub ndt : Latched
-ndt = latched false false false false false true false
+ndt = latched false false false false false false true false
 
 abbrev pub por : Latched
-por = latched false false false false false false true
+por = latched false false false false false false false true
 
 abbrev pub also : Latched → Latched → Latched
 also a b =
-    latched (a .cni || b .cni) (a .eom || b .eom) (a .ude || b .ude) (a .fil || b .fil) (a .ill || b .ill) (a .ndt || b .ndt)
+    latched (a .cni || b .cni) (a .eom || b .eom) (a .ude || b .ude) (a .bnl || b .bnl) (a .fil || b .fil) (a .ill || b .ill) (a .ndt || b .ndt)
     (a .por || b .por)
+
+abbrev pub allBut : Latched → Latched
+allBut b = latched (not (b .cni)) (not (b .eom)) (not (b .ude)) (not (b .bnl)) (not (b .fil)) (not (b .ill)) (not (b .ndt)) (not (b .por))
 
 -- A slot without a cartridge, with an open one, with a protected one.
 pub data Slot : Type 0 where

@@ -10,7 +10,7 @@ use Rattle.rules.specs.declared.answer.Lines.{Lines}
 use Rattle.rules.specs.Run.{World}
 use Rattle.rules.specs.Promises.Events.{command, cartridge, pull, error, underrun}
 use Rattle.rules.specs.Promises.Sentences.Form.{says, R, RD, E, ED, D, O, Case, rows, row}
-use Rattle.rules.specs.Promises.Sentences.Scene.{up, latched, none, all, cni, eom, fil, also, full, quiet, loud, odd, lead, oldOctets}
+use Rattle.rules.specs.Promises.Sentences.Scene.{up, none, all, cni, eom, fil, also, allBut, full, quiet, loud, odd, lead, oldOctets}
 use Rattle.rules.specs.Promises.Sentences.Scene.{oldStaging, port, among, at, scene, gone, free, plugged}
 
 -- Drive i, where drive n is selected and in this phase.
@@ -48,7 +48,7 @@ goingOut =
     here Rest (pull 2) (quiet free 5 Idle) 1 E Rest (loud gone 0 Idle cni)
     ∷ here Rest (pull 2) (quiet plugged 5 Reading) 1 E Rest (loud gone 0 Idle cni)
     ∷ here Rest (pull 2) (loud free 5 Writing eom) 1 E Rest (loud gone 0 Idle (also eom cni))
-    ∷ here Rest (pull 2) (loud free 5 Idle (latched false true true true true true true)) 1 E Rest (loud gone 0 Idle all)
+    ∷ here Rest (pull 2) (loud free 5 Idle (allBut cni)) 1 E Rest (loud gone 0 Idle all)
     ∷ here (Taking 3) (pull 2) (quiet free 5 Writing) 1 E Rest (loud gone 0 Idle cni)
     ∷ here (Giving 3) (pull 2) (quiet free 5 Reading) 1 E Rest (loud gone 0 Idle cni)
     ∷ here (Status 3) (pull 2) (quiet free 5 Writing) 1 ED (Status 3) (loud gone 0 Idle cni)
