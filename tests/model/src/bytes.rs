@@ -69,8 +69,9 @@ impl Unit {
     fn take_inside(&mut self, tape: &[u8], n: u64) -> Done {
         let at = self.at();
         let drive = &mut self.drives[at];
-        if found(tape, drive.head) != Found::Block {
-            drive.latched.ude = true;
+        let found = found(tape, drive.head);
+        if found != Found::Block {
+            drive.latch_bad(found);
             drive.stop();
             self.phase = Phase::Rest;
             return Done::without_byte(true);

@@ -1,7 +1,7 @@
-//! An independent model of the tape unit of document 01, and what compares `replay`
+//! An independent model of the tape unit of documents 01 and 02, and what compares `replay`
 //! and a board with it.
 //!
-//! `Unit::step` is the unit; the modules beside it hold one part of the document each.
+//! `Unit::step` is the unit; the modules beside it hold one part of the documents each.
 
 pub mod answers;
 mod bytes;
@@ -20,6 +20,8 @@ pub mod replay;
 pub mod state;
 pub mod tape;
 
+#[cfg(test)]
+mod bad_records;
 #[cfg(test)]
 mod easy_to_get_wrong;
 #[cfg(test)]

@@ -2,12 +2,13 @@
 
 use crate::state::{Drive, Latched};
 
-/// Bits of octet 0; USL (20) and BNL (02) never stand.
+/// Bits of octet 0; USL (20) never stands.
 const ST0: u8 = 0x80;
 const CNI: u8 = 0x40;
 const WRP: u8 = 0x10;
 const EOM: u8 = 0x08;
 const UDE: u8 = 0x04;
+const BNL: u8 = 0x02;
 const FIL: u8 = 0x01;
 /// Bits of octet 1; MBD (10), BPE (04) and ERM (02) never stand.
 const ST1: u8 = 0x80;
@@ -39,6 +40,7 @@ impl Drive {
                 (self.protected, WRP),
                 (latched.eom, EOM),
                 (latched.ude, UDE),
+                (latched.bnl, BNL),
                 (latched.fil, FIL),
             ],
         )

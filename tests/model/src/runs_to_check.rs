@@ -81,13 +81,20 @@ fn l_1540_write_gives_88_88_at_once() {
 }
 
 #[test]
-fn mark_passed_head_1_81_00_kind_07_at_head_1_read_84_00() {
+fn mark_passed_head_1_81_00_kind_07_at_head_1_read_86_00() {
     let mut script = loaded(tape(4096, &[0x02, 0x07]), false);
     assert_eq!(script.command(READ).answer, Answer::Exception);
     assert_eq!(script.unit.drives[0].head, 1);
     assert_eq!(two(&mut script), [0x81, 0x00]);
     assert_eq!(script.command(READ).answer, Answer::Exception);
-    assert_eq!(two(&mut script), [0x84, 0x00]);
+    assert_eq!(two(&mut script), [0x86, 0x00]);
+}
+
+#[test]
+fn kind_07_at_head_0_read_86_88() {
+    let mut script = loaded(tape(4096, &[0x07]), false);
+    assert_eq!(script.command(READ).answer, Answer::Exception);
+    assert_eq!(two(&mut script), [0x86, 0x88]);
 }
 
 #[test]

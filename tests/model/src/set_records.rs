@@ -5,7 +5,7 @@ use crate::compare::script::Script;
 use crate::{Answer, Drive, Lines, Mode, Phase, Unit};
 
 /// A bench whose selected drive is loaded, open, ONLINE up, without EXCEPTION.
-fn bench(length: usize, mode: Mode, head: u64) -> Script {
+pub fn bench(length: usize, mode: Mode, head: u64) -> Script {
     let mut script = Script::on([vec![0; length], vec![], vec![], vec![]]);
     script.unit.online = true;
     let drive = &mut script.unit.drives[0];
@@ -167,7 +167,7 @@ fn a_head_above_the_tape_is_bad_to_read_and_has_no_room_to_write() {
         assert_eq!(script.command(command).answer, Answer::Exception);
         let latched = script.drive().latched;
         let found = [(latched.ude, 'u'), (latched.eom, 'e'), (latched.ndt, 'n')];
-        assert!(found.iter().all(|&(up, letter)| up == (letter == bit)));
+        assert!(found.iter().all(|&(up, letter)| up == (letter == bit)) && !latched.bnl);
         assert_eq!(script.drive().head, head);
     }
 }

@@ -33,6 +33,7 @@ pub struct Latched {
     pub cni: bool,
     pub eom: bool,
     pub ude: bool,
+    pub bnl: bool,
     pub fil: bool,
     pub ill: bool,
     pub ndt: bool,

@@ -15,6 +15,9 @@ pub enum Found {
     Block,
     Mark,
     End,
+    /// A kind byte that no record has.
+    Unknown,
+    /// No place for a record: a block past the tape's end, or a head above it.
     Bad,
 }
 
@@ -30,8 +33,9 @@ pub fn found(tape: &[u8], head: u64) -> Found {
     match tape[head as usize] {
         END => Found::End,
         DATA if head + BLOCK_RECORD <= length => Found::Block,
+        DATA => Found::Bad,
         MARK => Found::Mark,
-        _ => Found::Bad,
+        _ => Found::Unknown,
     }
 }
 
@@ -62,9 +66,15 @@ impl Drive {
                 self.head += 1;
             }
             Found::End => self.latched.ndt = true,
-            Found::Bad | Found::Block => self.latched.ude = true,
+            Found::Unknown | Found::Bad | Found::Block => self.latch_bad(found),
         }
         self.stop();
+    }
+
+    /// Latches that no record can be read here: UDE, and BNL if an unknown kind is why.
+    pub(crate) fn latch_bad(&mut self, found: Found) {
+        self.latched.ude = true;
+        self.latched.bnl |= found == Found::Unknown;
     }
 
     /// Puts a record at the head, moves past it and closes the data there. The room is the

@@ -1,5 +1,6 @@
 //! The model is total, and what it refuses it leaves alone, whatever the record and the tapes.
 
+use model::commands::READ_STATUS;
 use model::compare::random::Random;
 use model::compare::records::{any_event, any_tapes, any_unit};
 use model::{Answer, Lines};
@@ -32,4 +33,36 @@ fn every_event_in_every_record_has_an_outcome_that_keeps_to_the_frame() {
     }
     // All answers came but 6, which needs tapes too long to make so often.
     assert!(seen[..6].iter().all(|&count| count > 1_000), "{seen:?}");
+}
+
+#[test]
+fn bnl_comes_with_ude_exactly_where_the_head_is_left_at_an_unknown_kind() {
+    let mut random = Random::new(21);
+    let mut came = [0; 2];
+    for _ in 0..40 {
+        let fresh = any_tapes(&mut random);
+        for _ in 0..5_000 {
+            let mut tapes = fresh.clone();
+            let mut unit = any_unit(&mut random, &tapes);
+            let event = any_event(&mut random);
+            let before = unit.clone();
+            let outcome = unit.step(&mut tapes, &event);
+            let clears = event == [0x06] || event == [0x01, READ_STATUS];
+            if outcome.answer == Answer::ImpossibleRecord || clears {
+                continue;
+            }
+            for (at, drive) in unit.drives.iter().enumerate() {
+                let (old, new) = (before.drives[at].latched, drive.latched);
+                let kind = tapes[at].get(drive.head as usize);
+                let unknown = kind.is_some_and(|kind| *kind > 0x02);
+                if !old.ude {
+                    assert_eq!(new.bnl, old.bnl || new.ude && unknown);
+                    came[unknown as usize] += new.ude as usize;
+                }
+                assert!(new.bnl || !old.bnl);
+                assert!(before.selected == at as u64 || (old.ude, old.bnl) == (new.ude, new.bnl));
+            }
+        }
+    }
+    assert!(came.iter().all(|&count| count > 500), "{came:?}");
 }

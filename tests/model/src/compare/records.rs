@@ -71,6 +71,7 @@ fn any_drive(random: &mut Random, length: u64) -> Drive {
         cni: bit(),
         eom: bit(),
         ude: bit(),
+        bnl: bit(),
         fil: bit(),
         ill: bit(),
         ndt: bit(),
@@ -106,7 +107,8 @@ pub fn any_tapes(random: &mut Random) -> Tapes {
         let mut at = 0;
         // Records one after another, now and then a wrong one, until one lets the scraps show.
         while at < length {
-            tape[at] = random.pick(&[0x00, 0x01, 0x01, 0x01, 0x02, 0x02, 0x07]);
+            let unknown = random.pick(&[0x03, 0x07, 0x80, 0xFF]);
+            tape[at] = random.pick(&[0x00, 0x01, 0x01, 0x01, 0x02, 0x02, unknown]);
             match tape[at] {
                 0x01 => at += 513,
                 0x02 => at += 1,

@@ -194,7 +194,8 @@ impl Script {
     pub fn read_on(&mut self) {
         let at = self.unit.selected as usize;
         loop {
-            let ends = matches!(found(&self.tapes[at], self.drive().head), Found::End | Found::Bad);
+            let ahead = found(&self.tapes[at], self.drive().head);
+            let ends = !matches!(ahead, Found::Block | Found::Mark);
             self.command(READ);
             while self.drive().mode == Mode::Reading {
                 self.take();

@@ -62,8 +62,8 @@ fn encode_drive(drive: &Drive, bytes: &mut Vec<u8>) {
     let [loaded, protected, exception] =
         [drive.loaded, drive.protected, drive.exception].map(|bit| bit as u8);
     bytes.extend([loaded, protected, 0, mode, 0, exception]);
-    let Latched { cni, eom, ude, fil, ill, ndt, por } = drive.latched;
-    bytes.extend([cni, eom, ude, false, fil, ill, ndt, por].map(|bit| bit as u8));
+    let Latched { cni, eom, ude, bnl, fil, ill, ndt, por } = drive.latched;
+    bytes.extend([cni, eom, ude, bnl, fil, ill, ndt, por].map(|bit| bit as u8));
     bytes.extend([0; 2]);
 }
 
@@ -146,11 +146,11 @@ impl Cursor<'_> {
     }
 
     fn latched(&mut self) -> Result<Latched, Flaw> {
-        let (cni, eom, ude) = (self.bool()?, self.bool()?, self.bool()?);
-        self.unused::<1>()?;
+        let (cni, eom) = (self.bool()?, self.bool()?);
+        let (ude, bnl) = (self.bool()?, self.bool()?);
         let (fil, ill) = (self.bool()?, self.bool()?);
         let (ndt, por) = (self.bool()?, self.bool()?);
-        Ok(Latched { cni, eom, ude, fil, ill, ndt, por })
+        Ok(Latched { cni, eom, ude, bnl, fil, ill, ndt, por })
     }
 
     fn drive(&mut self) -> Result<Drive, Flaw> {
@@ -191,7 +191,7 @@ pub fn field(offset: usize) -> String {
 }
 
 fn drive_field(at: usize) -> String {
-    let bits = ["CNI", "EOM", "UDE", "unused", "FIL", "ILL", "NDT", "POR"];
+    let bits = ["CNI", "EOM", "UDE", "BNL", "FIL", "ILL", "NDT", "POR"];
     match at {
         0..=7 => format!("head byte {at}"),
         12 | 13 => format!("errors byte {}", at - 12),
@@ -212,7 +212,7 @@ pub fn in_drives(places: &[usize]) -> impl Iterator<Item = usize> + '_ {
 
 /// Offsets of all bytes that are 0 or 1.
 pub fn bools() -> Vec<usize> {
-    let of_drives = in_drives(&[16, 17, 21, 22, 23, 24, 26, 27, 28, 29]);
+    let of_drives = in_drives(&[16, 17, 21, 22, 23, 24, 25, 26, 27, 28, 29]);
     std::iter::once(ONLINE).chain(of_drives).collect()
 }
 
@@ -223,5 +223,5 @@ pub fn modes() -> Vec<usize> {
 
 /// Offsets of all bytes that no field has.
 pub fn unused() -> Vec<usize> {
-    in_drives(&[8, 9, 10, 11, 18, 20, 25, 30, 31]).collect()
+    in_drives(&[8, 9, 10, 11, 18, 20, 30, 31]).collect()
 }

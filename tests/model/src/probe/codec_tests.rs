@@ -82,6 +82,7 @@ fn every_field_stands_in_its_place() {
         assert_eq!(changes(|unit| unit.drives[at].latched.cni = true), [(start + 22, 1)]);
         assert_eq!(changes(|unit| unit.drives[at].latched.eom = true), [(start + 23, 1)]);
         assert_eq!(changes(|unit| unit.drives[at].latched.ude = true), [(start + 24, 1)]);
+        assert_eq!(changes(|unit| unit.drives[at].latched.bnl = true), [(start + 25, 1)]);
         assert_eq!(changes(|unit| unit.drives[at].latched.fil = true), [(start + 26, 1)]);
         assert_eq!(changes(|unit| unit.drives[at].latched.ill = true), [(start + 27, 1)]);
         assert_eq!(changes(|unit| unit.drives[at].latched.ndt = true), [(start + 28, 1)]);
@@ -104,11 +105,11 @@ fn each_flaw_is_found() {
     }
     (0..=255).for_each(|byte| assert_eq!(with(0, byte).is_ok(), byte == 2));
     (0..=255).for_each(|byte| assert!(with(1, byte).is_ok()));
-    assert_eq!(unused().len(), 36);
+    assert_eq!(unused().len(), 32);
     for at in unused() {
         (1..=255).for_each(|byte| assert_eq!(with(at, byte), Err(Flaw::Unused), "{}", field(at)));
     }
-    assert_eq!(bools().len(), 41);
+    assert_eq!(bools().len(), 45);
     for at in bools() {
         (2..=255).for_each(|byte| assert_eq!(with(at, byte), Err(Flaw::Bool), "{}", field(at)));
         assert!(with(at, 0).is_ok() && with(at, 1).is_ok());
