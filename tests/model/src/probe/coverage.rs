@@ -65,7 +65,7 @@ impl Coverage {
             }
             Ok(before) if answer < 2 => {
                 let after = codec::decode(&stepped.record).expect("a step leaves a record");
-                let key = happened(&before, &after, &step.event, stepped);
+                let key = happened(&before, &after, step, stepped);
                 *self.happened.entry(key).or_default() += 1;
             }
             Ok(_) => {}

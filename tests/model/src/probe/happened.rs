@@ -1,9 +1,11 @@
 //! Names for what an event did, and for what is wrong with a record.
 
-use crate::commands::Command;
+use crate::commands::{Command, READ_FILE_MARK};
+use crate::probe::frame::Step;
 use crate::probe::reply::Stepped;
 use crate::state::{Drive, Mode, Phase, Unit, LONGEST};
 use crate::Event;
+use std::cmp::Ordering;
 
 /// What can be wrong with a record, alone.
 pub const FAULTS: [&str; 13] = [
@@ -56,25 +58,34 @@ pub fn faults(unit: &Unit) -> Vec<&'static str> {
     faults
 }
 
+/// UDE with BNL, and what UDE alone tells of.
+const BNL: &str = "UDE and BNL";
+const LONG: &str = "UDE, a block past the end";
+const ABOVE: &str = "UDE, a head above the tape";
+const AT_END: &str = "UDE, a head at the end";
+const NO_DATA: &str = "UDE, end of data";
+const A_MARK: &str = "UDE, a mark";
+
 /// What events can do, and how each can end.
-pub const HAPPENINGS: [(&str, &[&str]); 26] = [
+pub const HAPPENINGS: [(&str, &[&str]); 27] = [
     ("SELECT", &["taken", "ILL"]),
     ("BOT", &["taken", "ILL", "CNI"]),
     ("ERASE", &["taken", "ILL", "CNI", "EXCEPTION alone"]),
     ("INITIALIZATION", &["taken", "ILL", "CNI"]),
     ("WRITE", &["taken", "ILL", "CNI", "EXCEPTION alone", "EOM"]),
     ("WRITE FILE MARK", &["taken", "ILL", "CNI", "EXCEPTION alone", "EOM"]),
-    ("READ", &["taken", "ILL", "CNI", "FIL", "NDT", "UDE"]),
-    ("READ FILE MARK", &["ILL", "CNI", "FIL", "NDT", "UDE"]),
+    ("READ", &["taken", "ILL", "CNI", "FIL", "NDT", BNL, LONG, ABOVE]),
+    ("READ FILE MARK", &["ILL", "CNI", "FIL", "NDT", BNL, LONG, ABOVE]),
+    ("READ FILE MARK, blocks passed", &["FIL", "NDT", BNL, LONG]),
     ("READ STATUS", &["taken"]),
     ("unknown code", &["ILL"]),
     ("byte of a block given", &["taken"]),
     ("block recorded", &["taken", "EOM"]),
     ("block not recorded", &["EOM"]),
     ("octet", &["taken"]),
-    ("first byte of a block", &["taken", "FIL", "NDT", "UDE"]),
-    ("byte inside a block", &["taken", "UDE"]),
-    ("byte 512 of a block", &["taken", "FIL", "NDT", "UDE"]),
+    ("first byte of a block", &["taken", "FIL", "NDT", BNL, LONG, ABOVE]),
+    ("byte inside a block", &["taken", BNL, LONG, ABOVE, AT_END, NO_DATA, A_MARK]),
+    ("byte 512 of a block", &["taken", "FIL", "NDT", BNL, LONG]),
     ("ONLINE raised", &["taken"]),
     ("low level repeated", &["taken"]),
     ("ONLINE dropped, a mark recorded", &["taken"]),
@@ -90,15 +101,18 @@ pub const HAPPENINGS: [(&str, &[&str]); 26] = [
 pub fn happened(
     before: &Unit,
     after: &Unit,
-    event: &[u8],
+    step: &Step,
     stepped: &Stepped,
 ) -> (&'static str, &'static str) {
-    let event = Event::of(event).expect("only events are taken");
+    let event = Event::of(&step.event).expect("only events are taken");
     let at = match event {
         Event::CartridgeOut(at) => at,
         _ => before.selected as usize,
     };
     let what = match event {
+        Event::Command(READ_FILE_MARK) if after.drives[at].head > before.drives[at].head + 1 => {
+            "READ FILE MARK, blocks passed"
+        }
         Event::Command(octet) => Command::of(octet).map_or("unknown code", order),
         Event::Give(_) if before.phase != Phase::Taking(511) => "byte of a block given",
         Event::Give(_) if before.drives[at].head != after.drives[at].head => "block recorded",
@@ -113,7 +127,26 @@ pub fn happened(
         Event::Error(_) => "error",
         Event::Underrun(_) => "underrun",
     };
-    (what, ending(&before.drives[at], &after.drives[at], stepped.result[0]))
+    let ended = ending(&before.drives[at], &after.drives[at], stepped.result[0]);
+    match ended {
+        "UDE" => (what, cause(step, stepped, at, after.drives[at].head)),
+        _ => (what, ended),
+    }
+}
+
+/// What stands at a head where UDE came alone.
+fn cause(step: &Step, stepped: &Stepped, at: usize, head: u64) -> &'static str {
+    match head.cmp(&step.tapes[at].length.into()) {
+        Ordering::Greater => ABOVE,
+        Ordering::Equal => AT_END,
+        Ordering::Less => match stepped.tapes[at].at(head as usize) {
+            0x00 => NO_DATA,
+            0x01 => LONG,
+            0x02 => A_MARK,
+            // Never: BNL comes with it.
+            _ => "UDE, an unknown kind",
+        },
+    }
 }
 
 fn order(command: Command) -> &'static str {
@@ -146,13 +179,14 @@ fn dropped(drive: &Drive, answer: u8) -> &'static str {
     }
 }
 
-/// The bit that was latched and was not before.
+/// The bit that was latched and was not before; with BNL up before, UDE does not tell its cause.
 fn ending(before: &Drive, after: &Drive, answer: u8) -> &'static str {
     let (old, new) = (&before.latched, &after.latched);
     let bits = [
         (old.cni, new.cni, "CNI"),
         (old.eom, new.eom, "EOM"),
-        (old.ude, new.ude, "UDE"),
+        (old.ude || old.bnl, new.ude && new.bnl, BNL),
+        (old.ude || old.bnl, new.ude, "UDE"),
         (old.fil, new.fil, "FIL"),
         (old.ill, new.ill, "ILL"),
         (old.ndt, new.ndt, "NDT"),
