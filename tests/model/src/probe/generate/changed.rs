@@ -1,6 +1,6 @@
 //! Runs of events on one record, with tapes that change between them.
 
-use super::parts::{around, scrap, Setting};
+use super::parts::{around, scrap, unknown, Setting};
 use super::possible::lend_any;
 use super::{events, Index};
 use crate::commands::*;
@@ -75,7 +75,8 @@ fn change(random: &mut Random, setting: &mut Setting) {
     let length = setting.tapes[setting.at()].length as usize;
     match random.among(0..10) {
         0 | 1 => {
-            let kinds = [random.pick(&[0, 1, 2, 3, 255]), random.pick(&[0, 1, 2, 3])];
+            let (bad, next) = (unknown(random), unknown(random));
+            let kinds = [random.pick(&[0, 1, 2, bad, bad]), random.pick(&[0, 1, 2, next])];
             setting.lend(around(random, length, head, kinds));
         }
         2 => {

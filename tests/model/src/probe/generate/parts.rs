@@ -61,6 +61,12 @@ pub fn noise(random: &mut Random, count: usize) -> Vec<u8> {
     bytes
 }
 
+/// A kind byte that no record has, often an edge of them.
+pub fn unknown(random: &mut Random) -> u8 {
+    let any = random.byte().max(0x03);
+    random.pick(&[0x03, 0x80, 0xFF, any])
+}
+
 /// A tape of noise where a head at this place can see; these kinds stand at it and past a block.
 pub fn around(random: &mut Random, length: usize, head: u64, kinds: [u8; 2]) -> Lent {
     let head = length.min(head.try_into().unwrap_or(usize::MAX));
@@ -79,7 +85,8 @@ pub fn written(random: &mut Random, length: usize) -> Lent {
     let mut given = noise(random, length);
     let mut at = 0;
     while at < length {
-        given[at] = random.pick(&[0x00, 0x01, 0x01, 0x01, 0x01, 0x02, 0x02, 0x03]);
+        let unknown = unknown(random);
+        given[at] = random.pick(&[0x00, 0x01, 0x01, 0x01, 0x01, 0x02, 0x02, unknown]);
         match given[at] {
             0x01 => at += 513,
             0x02 => at += 1,

@@ -1,6 +1,6 @@
 //! Phases at every place, those that cannot be among them.
 
-use super::parts::{around, Act, Setting};
+use super::parts::{around, unknown, Act, Setting};
 use super::Index;
 use crate::commands::READ_STATUS;
 use crate::compare::random::Random;
@@ -45,7 +45,8 @@ pub fn places(random: &mut Random, index: &mut Index, frames: &mut Vec<Frame>) {
     let exception = index.of(&[false, true]);
     let head = random.pick(&[0, 1, 513]);
     let rest = random.pick(&[511, 512, 513, 514, 1028, ROOM - 1, ROOM, ROOM + 513]);
-    let kinds = [random.pick(&[1, 1, 1, 1, 0, 2]), random.pick(&[0, 1, 2, 3])];
+    let (bad, next) = (unknown(random), unknown(random));
+    let kinds = [random.pick(&[1, 1, 1, 1, 0, 2, bad]), random.pick(&[0, 1, 2, next])];
     let mut setting = Setting::new(random);
     setting.ready(Act(mode, phase, event), head);
     setting.drive().exception = exception;

@@ -1,6 +1,6 @@
 //! Records that can be, in every situation that an event can meet.
 
-use super::parts::{around, scrap, written, Setting};
+use super::parts::{around, scrap, unknown, written, Setting};
 use super::{events, faults, Index};
 use crate::compare::random::Random;
 use crate::probe::frame::{Frame, Lent};
@@ -81,7 +81,8 @@ pub fn lend_any(random: &mut Random, setting: &mut Setting) {
         1 => random.among(0..length + 3) as u64,
         _ => (length as u64).saturating_sub(back),
     };
-    let kinds = [random.pick(&[0, 1, 1, 2, 3]), random.pick(&[0, 1, 2, 3])];
+    let (bad, next) = (unknown(random), unknown(random));
+    let kinds = [random.pick(&[0, 1, 1, 2, bad]), random.pick(&[0, 1, 2, next])];
     setting.drive().head = head;
     setting.lend(match random.among(0..6) {
         0 => written(random, length),
