@@ -1,11 +1,11 @@
 //! Mutants broken in what no run of `replay` shows: records, tapes and events set from outside.
 
-use super::{edges, refused, scene, Scene};
+use super::{edges, kinds, refused, scene, Scene};
 use crate::state::Unit;
 use crate::{Outcome, Tapes};
 
 /// Every hidden mutant by its name; its number is its place, counted from 1.
-const HIDDEN: [(&str, fn(&mut Scene)); 33] = [
+const HIDDEN: [(&str, fn(&mut Scene)); 62] = [
     ("a head of 16,777,216 is impossible", refused::head_refused),
     ("a head of 16,777,217 is possible", refused::head_passed),
     ("place 0 of a block is possible", refused::place_0),
@@ -39,6 +39,35 @@ const HIDDEN: [(&str, fn(&mut Scene)); 33] = [
     ("cartridge out clears the staging block", edges::staging_cleared),
     ("ERASE leaves the last byte", edges::last_byte_left),
     ("UDE inside a block moves the head", edges::ude_moves),
+    ("an unknown kind latches UDE alone", kinds::never),
+    ("an unknown kind latches BNL alone", kinds::bnl_alone),
+    ("every bad record latches BNL", kinds::always),
+    ("a block past the end latches BNL", kinds::past_end),
+    ("a head above the tape latches BNL", kinds::above),
+    ("end of data inside a block latches BNL", kinds::end_inside),
+    ("a mark inside a block latches BNL", kinds::mark_inside),
+    ("a head at the end inside a block latches BNL", kinds::at_end_inside),
+    ("no BNL inside a block", kinds::lost_inside),
+    ("no BNL after byte 512", kinds::lost_behind),
+    ("no BNL at the first byte of a block", kinds::lost_first),
+    ("no BNL by READ", kinds::lost_read),
+    ("no BNL by READ FILE MARK", kinds::lost_search),
+    ("no BNL by READ FILE MARK behind blocks", kinds::search_began),
+    ("no BNL at kind 03", kinds::kind_03),
+    ("no BNL at kind FF", kinds::kind_ff),
+    ("no BNL at kinds 80 to FF", kinds::kinds_80),
+    ("no BNL without room for a block", kinds::room),
+    ("every exception at an unknown kind latches BNL", kinds::any_exception),
+    ("UDE alone clears BNL", kinds::ude_clears),
+    ("READ STATUS keeps BNL", kinds::kept_by_status),
+    ("RESET keeps BNL", kinds::kept_by_reset),
+    ("cartridge in clears BNL", kinds::cleared_by_in),
+    ("cartridge out clears BNL", kinds::cleared_by_out),
+    ("BNL is not shown", kinds::not_shown),
+    ("BNL is shown as USL", kinds::shown_as_usl),
+    ("BNL is shown as FIL", kinds::shown_as_fil),
+    ("BNL is shown with UDE alone", kinds::shown_by_ude),
+    ("ST0 overlooks BNL", kinds::st0_overlooks),
 ];
 
 /// How many there are.

@@ -3,6 +3,7 @@
 mod bytes;
 mod edges;
 pub mod hidden;
+mod kinds;
 mod orders;
 mod refused;
 mod status;
@@ -34,7 +35,7 @@ enum Break {
 use Break::{Step, Text};
 
 /// Every mutant by its name; its number is its place, counted from 1.
-const MUTANTS: [(&str, Break); 42] = [
+const MUTANTS: [(&str, Break); 44] = [
     ("always answers 2", Step(orders::always_two)),
     ("constant octets", Step(status::constant_octets)),
     ("takes events and changes nothing", Step(orders::changes_nothing)),
@@ -73,6 +74,8 @@ const MUTANTS: [(&str, Break); 42] = [
     ("last byte of a block is the one before it", Step(bytes::last_byte)),
     ("byte FF is staged as 7F", Step(bytes::seven_bits)),
     ("drive body 84 is drive 0", Step(orders::loose_body)),
+    ("end of data latches BNL", Step(kinds::with_ndt)),
+    ("a mark passed latches BNL", Step(kinds::with_fil)),
     ("replay: a cut-off event is not answered", Text(text::cut_off_unanswered)),
     ("replay: numbers wrap at 65,536", Text(text::numbers_wrap)),
     ("replay: lower-case digits", Text(text::lower_case)),

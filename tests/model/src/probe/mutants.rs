@@ -9,16 +9,23 @@ use crate::{Lines, Outcome, Tapes};
 enum Misread {
     /// Fields stand elsewhere, for reading and for writing.
     Both(fn(&mut Vec<u8>)),
-    /// What is no record is taken for one.
+    /// What is no record is taken for one, or a record for another.
     In(fn(&mut Vec<u8>)),
+    /// A record is taken for none.
+    Refused(fn(&[u8]) -> bool),
 }
 
-use Misread::{Both, In};
+use Misread::{Both, In, Refused};
 
-const MISREAD: [(&str, Misread); 14] = [
+const MISREAD: [(&str, Misread); 19] = [
     ("errors and underruns exchanged", Both(|bytes| swap(bytes, 12, 14, 2))),
     ("loaded and protected exchanged", Both(|bytes| swap(bytes, 16, 17, 1))),
     ("latched FIL and ILL exchanged", Both(|bytes| swap(bytes, 26, 27, 1))),
+    ("latched UDE and BNL exchanged", Both(|bytes| swap(bytes, 24, 25, 1))),
+    ("BNL stands behind the mode", Both(|bytes| swap(bytes, 20, 25, 1))),
+    ("BNL in a record is passed over", In(|bytes| bnl_at_most(bytes, 0))),
+    ("BNL above 1 is 1", In(|bytes| bnl_at_most(bytes, 1))),
+    ("a record with BNL is none", Refused(has_bnl)),
     ("drives 1 and 2 exchanged", Both(|bytes| exchange(bytes, DRIVES + DRIVE, DRIVES + 2 * DRIVE))),
     ("heads with the high byte first", Both(|bytes| reverse_heads(bytes))),
     ("what stands in unused room is passed over", In(|bytes| clear_unused(bytes))),
@@ -111,8 +118,13 @@ struct Misreading(&'static Misread);
 impl Board for Misreading {
     fn step(&mut self, record: &mut Vec<u8>, tapes: &mut Tapes, event: &[u8]) -> Outcome {
         let found = record.clone();
-        let (Both(bend) | In(bend)) = self.0;
-        bend(record);
+        match self.0 {
+            Both(bend) | In(bend) => bend(record),
+            Refused(none) if codec::decode(record).is_ok() && none(record) => {
+                return Model.step(&mut Vec::new(), tapes, event);
+            }
+            Refused(_) => {}
+        }
         if codec::decode(record).map_or(true, |unit| unit.impossible()) {
             *record = found;
             return Model.step(record, tapes, event);
@@ -179,6 +191,14 @@ fn reverse_heads(bytes: &mut [u8]) {
 
 fn clear_unused(bytes: &mut [u8]) {
     codec::unused().into_iter().for_each(|at| at_most(bytes, at, 0));
+}
+
+fn has_bnl(bytes: &[u8]) -> bool {
+    codec::in_drives(&[25]).any(|at| bytes[at] == 1)
+}
+
+fn bnl_at_most(bytes: &mut [u8], most: u8) {
+    codec::in_drives(&[25]).for_each(|at| at_most(bytes, at, most));
 }
 
 fn short_heads(bytes: &mut [u8]) {
