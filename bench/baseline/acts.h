@@ -45,9 +45,10 @@ static inline bool take_first(struct unit *u, size_t d, struct tape t, struct re
 // A later byte; behind the last one stands the edge check.
 static inline bool take_next(struct unit *u, size_t d, struct tape t, struct result *r) {
     size_t n = u->place, head = u->head[d];
-    if (found_at(t, head) != FOUND_BLOCK) {
+    enum found found = found_at(t, head);
+    if (found != FOUND_BLOCK) {
         at_phase(u, REST, 0);
-        return tell(u, d, FOUND_BAD);
+        return tell(u, d, found == FOUND_UNKNOWN ? FOUND_UNKNOWN : FOUND_BAD);
     }
     hand(r, t.bytes[head + 1 + n]);
     if (n < BODY - 1) {

@@ -9,7 +9,7 @@
 enum { KIND_END, KIND_BLOCK, KIND_MARK };
 
 // What stands at an offset.
-enum found { FOUND_BLOCK, FOUND_MARK, FOUND_END, FOUND_BAD };
+enum found { FOUND_BLOCK, FOUND_MARK, FOUND_END, FOUND_BAD, FOUND_UNKNOWN };
 
 static inline bool room(size_t head, size_t need, size_t length) { return need <= length && head <= length - need; }
 
@@ -19,7 +19,7 @@ static inline enum found found_at(struct tape t, size_t head) {
     case KIND_BLOCK: return t.length - head >= BLOCK ? FOUND_BLOCK : FOUND_BAD;
     case KIND_MARK: return FOUND_MARK;
     case KIND_END: return FOUND_END;
-    default: return FOUND_BAD;
+    default: return FOUND_UNKNOWN;
     }
 }
 
@@ -50,6 +50,7 @@ static inline bool tell(struct unit *u, size_t d, enum found found) {
     idle(u, d);
     if (found == FOUND_END) return raise1(u, d, NDT);
     if (found == FOUND_BAD) return raise0(u, d, UDE);
+    if (found == FOUND_UNKNOWN) return raise0(u, d, UDE | BNL);
     u->head[d] += 1;
     return raise0(u, d, FIL);
 }

@@ -20,7 +20,7 @@ enum { REST, TAKING, GIVING, STATUS };
 enum { LOADED = 1, PROTECTED = 2, WRITING = 4, READING = 8, EXCEPTION = 16, BUSY = WRITING | READING };
 
 // Bits of octet 0, then of octet 1.
-enum { ST0 = 0x80, CNI = 0x40, WRP = 0x10, EOM = 0x08, UDE = 0x04, FIL = 0x01 };
+enum { ST0 = 0x80, CNI = 0x40, WRP = 0x10, EOM = 0x08, UDE = 0x04, BNL = 0x02, FIL = 0x01 };
 enum { ST1 = 0x80, ILL = 0x40, NDT = 0x20, BOM = 0x08, POR = 0x01 };
 
 // The unit: one array for each field of a drive, so that four drives are looked at in one word.
