@@ -16,8 +16,9 @@ struct input {
     size_t used, room;
 };
 
-// The tape of drive 0 before the events: the end of data with old bytes behind it, blocks, blocks around one mark.
-enum recorded { EMPTY, BLOCKS, ONE_MARK };
+// The tape of drive 0 before the events: the end of data with old bytes behind it, blocks, blocks around one mark, one
+// block with an unknown kind behind it.
+enum recorded { EMPTY, BLOCKS, ONE_MARK, BAD };
 
 // A row of the table: `make` adds the events that are measured, or those that are subtracted, and returns how many
 // things they are.
@@ -51,6 +52,7 @@ size_t make_count(struct input *in, size_t times, bool less);
 size_t make_mark(struct input *in, size_t times, bool less);
 size_t make_erase(struct input *in, size_t times, bool less);
 size_t make_mixed(struct input *in, size_t times, bool less);
+size_t make_bad(struct input *in, size_t times, bool less);
 size_t make_written_on(struct input *in, size_t times, bool less);
 size_t make_read_on(struct input *in, size_t times, bool less);
 

@@ -134,3 +134,19 @@ size_t make_mixed(struct input *in, size_t times, bool less) {
     }
     return (in->used - before) / 2;
 }
+
+// A bad record, met behind a block, by an order and by a search; each report tells of it.
+size_t make_bad(struct input *in, size_t times, bool less) {
+    for (size_t i = 0; i < times && !less; i++) {
+        add(in, COMMAND, TO_READ);
+        add_bytes(in, TAKE, BODY);
+        add_report(in);
+        add(in, COMMAND, TO_READ);
+        add_report(in);
+        add(in, COMMAND, TO_BOT);
+        add(in, COMMAND, TO_MARK);
+        add_report(in);
+        add(in, COMMAND, TO_BOT);
+    }
+    return times;
+}

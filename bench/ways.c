@@ -19,7 +19,7 @@ uint8_t *kept = memory[DRIVES]; // tape 0 as it was recorded before the events
 // Makes the tapes of a row; with ONE_MARK there is a mark at the first record at or behind `mark`.
 void lend(const struct row *row, size_t mark) {
     size_t at = 0;
-    memset(kept, row->recorded == EMPTY ? 0xEE : 0, row->length);
+    memset(kept, row->recorded == EMPTY || row->recorded == BAD ? 0xEE : 0, row->length);
     if (row->recorded == EMPTY) kept[0] = 0;
     while (row->recorded != EMPTY && at + BLOCK <= row->length) {
         if (row->recorded == ONE_MARK && at >= mark) {
@@ -30,6 +30,7 @@ void lend(const struct row *row, size_t mark) {
         kept[at] = 1;
         for (size_t i = 1; i < BLOCK; i++) kept[at + i] = (uint8_t)(at / BLOCK + i);
         at += BLOCK;
+        if (row->recorded == BAD) break;
     }
     for (size_t d = 0; d < DRIVES; d++) lent[d].length = row->length;
     for (size_t d = 1; d < DRIVES; d++) memset(lent[d].bytes, 0, row->length);
