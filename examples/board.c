@@ -1,11 +1,11 @@
-/* A small firmware over glenoulty.h: a strike is recorded and read back, a protected cartridge refuses, a record is
- * kept over a loss of power. The first half is a board's own; in the second the host at the other end is played. */
+/* A small firmware over glenoulty.h: a strike is recorded and read back, a protected cartridge refuses, two kinds of bad
+ * record are told apart, a record is kept over a loss of power. The first half is a board's own; in the second the host at the other end is played. */
 #include "glenoulty.h"
 #include <stdbool.h>
 #include <stdio.h>
 #include <string.h>
 
-enum { DRIVES = 4, BLOCK = 512, LENGTH = 16384 };
+enum { DRIVES = 4, BLOCK = 512, RECORD = 1 + BLOCK, LENGTH = 16384 };
 
 /* ---- the board */
 
@@ -147,6 +147,24 @@ static bool protected_refuses(struct board *b) {
     return refused && memcmp(before, b->tapes[2], LENGTH) == 0;
 }
 
+/* From the beginning to the next mark, of which there is none: the report tells what is met instead. */
+static bool search(struct board *b, uint8_t octet0, const char *met) {
+    bool told = order(b, "BOT", GLENOULTY_BOT, GLENOULTY_TAKEN) &&
+                order(b, "READ FILE MARK", GLENOULTY_READ_FILE_MARK, GLENOULTY_EXCEPTION) && status(b, octet0, 0x00);
+    if (told) printf("  %s\n", met);
+    return told;
+}
+
+/* An image that was cut short, and then a page that reads as something else: UDE both times, and BNL tells which. */
+static bool bad_records_told(struct board *b) {
+    for (size_t at = 0; at < LENGTH; at += RECORD) b->tapes[3][at] = 1; /* blocks; the last runs past the end */
+    bool ready = with_body(b, "cartridge in 3", GLENOULTY_CARTRIDGE_IN, 3, GLENOULTY_TAKEN) &&
+                 order(b, "SELECT 3", GLENOULTY_SELECT_3, GLENOULTY_TAKEN) && status(b, 0x00, 0x89);
+    if (!ready || !search(b, GLENOULTY_ST0 | GLENOULTY_UDE, "the image was cut short")) return false;
+    b->tapes[3][5 * RECORD] = 0xE7;
+    return search(b, GLENOULTY_ST0 | GLENOULTY_UDE | GLENOULTY_BNL, "a page is worn");
+}
+
 /* Power fails in the middle of a report: the record goes to flash, and the report goes on from there. */
 static bool survives_power_loss(struct board *b) {
     uint8_t byte, answer;
@@ -179,8 +197,8 @@ int main(void) {
     }
     printf("a record has %u bytes\n", (unsigned)glenoulty_size());
     print_line("power on", GLENOULTY_TAKEN, &b);
-    bool good = make_ready(&b) && record_and_read(&b) && protected_refuses(&b) && survives_power_loss(&b) &&
-                bad_record_refused(&b);
+    bool good = make_ready(&b) && record_and_read(&b) && protected_refuses(&b) && bad_records_told(&b) &&
+                survives_power_loss(&b) && bad_record_refused(&b);
     puts(good ? "all as it should be" : "something is wrong");
     return good ? 0 : 1;
 }

@@ -57,6 +57,20 @@ extern "C" {
 #define GLENOULTY_READ_FILE_MARK 0xA0
 #define GLENOULTY_READ_STATUS 0xC0
 
+/* A report has six octets: these bits in octet 0, these in octet 1, then errors and underruns, high octet first. */
+#define GLENOULTY_ST0 0x80 /* another bit of octet 0 stands */
+#define GLENOULTY_CNI 0x40 /* no cartridge, now or at some time since the last report */
+#define GLENOULTY_WRP 0x10 /* the cartridge is protected */
+#define GLENOULTY_EOM 0x08 /* no room left to record */
+#define GLENOULTY_UDE 0x04 /* a bad record; nothing can be read there */
+#define GLENOULTY_BNL 0x02 /* with GLENOULTY_UDE: its kind byte is none of 00, 01, 02 */
+#define GLENOULTY_FIL 0x01 /* a file mark was passed */
+#define GLENOULTY_ST1 0x80 /* another bit of octet 1 stands */
+#define GLENOULTY_ILL 0x40 /* an illegal order */
+#define GLENOULTY_NDT 0x20 /* the data ends here */
+#define GLENOULTY_BOM 0x08 /* the cartridge stands at its beginning */
+#define GLENOULTY_POR 0x01 /* power on or RESET since the last report */
+
 /* What came of an event. `given` is 1 where the event handed out `byte`, else both are 0; the lines are 1 if up. */
 typedef struct glenoulty_result {
     uint8_t answer;

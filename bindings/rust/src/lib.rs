@@ -23,6 +23,7 @@
 pub mod event;
 mod order;
 mod raw;
+pub mod report;
 
 pub use order::Order;
 

@@ -1,6 +1,7 @@
-//! The loop of `examples/board.c`: a strike recorded and read back, a plug that refuses, a record that is stored.
+//! The loop of `examples/board.c`: a strike recorded and read back, a plug that refuses, bad records told apart, a record that is stored.
 #![cfg(target_arch = "x86_64")]
 
+use glenoulty::report::{BNL, BOM, ST0, ST1, UDE};
 use glenoulty::{event, Answer, Lines, Order, Outcome, Unit, BLOCK, LONGEST, SIZE};
 
 const SELECT: [Order; 4] = [Order::Select0, Order::Select1, Order::Select2, Order::Select3];
@@ -82,6 +83,17 @@ fn a_protected_cartridge_keeps_every_byte() {
 }
 
 #[test]
+fn an_unknown_kind_and_a_block_past_the_end_are_told_apart() {
+    let mut board = Board::ready(0, false);
+    board.tapes[0] = vec![1; BLOCK];
+    assert_eq!(board.order(Order::Read), Answer::Exception);
+    assert_eq!(board.status()[..2], [ST0 | UDE, ST1 | BOM]);
+    board.tapes[0][0] = 0xE7;
+    assert_eq!(board.order(Order::Read), Answer::Exception);
+    assert_eq!(board.status()[..2], [ST0 | UDE | BNL, ST1 | BOM]);
+}
+
+#[test]
 fn a_stored_record_goes_on_where_it_was() {
     let mut board = Board::ready(0, false);
     board.send(&event::underrun(0));
@@ -98,8 +110,9 @@ fn bytes_that_are_no_record_are_refused() {
     assert_eq!(Unit::from_bytes(fresh.as_bytes()), Some(fresh.clone()));
     assert_eq!(Unit::from_bytes(&[]), None);
     assert_eq!(Unit::from_bytes(&fresh.as_bytes()[1..]), None);
-    // version, ONLINE above 1, a phase that is none, a number at Rest, a reserved byte, a mode that is none, a drive 4 selected
-    for (offset, byte) in [(0, 1), (2, 2), (3, 4), (4, 1), (26, 1), (37, 3), (1, 4)] {
+    // version, ONLINE above 1, a phase that is none, a number at Rest, a reserved byte, a mode that is none, BNL above 1,
+    // a drive 4 selected
+    for (offset, byte) in [(0, 1), (2, 2), (3, 4), (4, 1), (26, 1), (37, 3), (43, 2), (1, 4)] {
         let mut bytes = *fresh.as_bytes();
         bytes[offset] = byte;
         assert_eq!(Unit::from_bytes(&bytes), None, "byte {byte} at {offset}");
