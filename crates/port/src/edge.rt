@@ -20,7 +20,7 @@ pub fn is_block(found: Found) -> bool
     }
 }
 
-// No record to go on with: the bit tells why, and the drive is Idle. A kind that nobody knows latches UDE and BNL, every other bad record UDE alone.
+// No record to go on with: the bits tell why, and the drive is Idle. Only a kind that nobody knows latches BNL beside UDE.
 pub(crate) fn halt(drive: Drive, why: Why) -> Drive
     ensures { λ r. ⌜ r ≡ halted why drive ⌝ }
 {

@@ -19,7 +19,7 @@ isBlock Block = true
 isBlock Mark = false
 isBlock (Stop w) = false
 
--- Where there is no record to go on with: the bit tells why, and the drive is Idle. A kind that nobody knows latches UDE and BNL, every other bad record UDE alone.
+-- Where there is no record to go on with: the bits tell why, and the drive is Idle. Only a kind that nobody knows latches BNL beside UDE.
 abbrev pub halted : Why → Drive → Drive
 halted End d = stopping Ndt d
 halted Unknown d = latching Bnl (stopping Ude d)
