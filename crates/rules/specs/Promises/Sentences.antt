@@ -1,4 +1,4 @@
--- Document 01 sentence by sentence: each field is a list of runs that would end otherwise if the definitions said something else.
+-- Documents 01 and 02 sentence by sentence: each field is a list of runs that would end otherwise if the definitions said something else.
 pub mod Form
 pub mod Scene
 pub mod State

@@ -14,7 +14,7 @@ use Rattle.rules.specs.Phase.{givenBefore, takenBefore, outstanding, whi
 use Rattle.rules.specs.Run.{World, freshWorld}
 use Rattle.rules.specs.Promises.Events.{restart}
 use Rattle.rules.specs.Promises.Sentences.Form.{says, R, RD, E, ED, D, O, Case, rows, row, still}
-use Rattle.rules.specs.Promises.Sentences.Scene.{up, low, none, eom, fil, por, full, quiet, loud, odd, tape0, tape1, tape3, oldOctets}
+use Rattle.rules.specs.Promises.Sentences.Scene.{up, low, none, all, eom, por, full, quiet, loud, odd, tape0, tape1, tape3, oldOctets}
 use Rattle.rules.specs.Promises.Sentences.Scene.{oldStaging, port, lentAs, scene, gone, free, plugged}
 
 -- A fresh drive: no cartridge or plug, head 0, Idle, counters 0, POR latched and EXCEPTION up.
@@ -63,7 +63,7 @@ resets level ph d = row (scene level ph d odd) restart (says 1 E) (afterReset le
 abbrev pub resetting : List Case
 resetting =
     resets up Rest (quiet free 5 Idle)
-    ∷ resets low Rest (loud free 5 Idle fil)
+    ∷ resets low Rest (loud free 5 Idle all)
     ∷ resets up (Taking 3) (quiet free 5 Writing)
     ∷ resets up (Giving 3) (quiet free 5 Reading)
     ∷ resets up (Status 4) (loud free 5 Writing eom)
