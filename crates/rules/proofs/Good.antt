@@ -24,7 +24,7 @@ use Rattle.rules.specs.declared.drive.Drive.{Drive}
 use Rattle.rules.specs.declared.drive.Mode.{Mode}
 use Rattle.rules.specs.declared.drive.Mode.the-variants.{Idle, Writing, Reading}
 use Rattle.rules.specs.declared.drive.Bit.{Bit}
-use Rattle.rules.specs.declared.drive.Bit.the-variants.{Eom, Ude, Fil, Ndt}
+use Rattle.rules.specs.declared.drive.Bit.the-variants.{Eom, Fil}
 use Rattle.rules.specs.declared.phase.Phase.the-variants.{Rest, Taking, Giving, Status}
 use Rattle.rules.specs.declared.unit.Port.{Port}
 use Rattle.rules.specs.declared.event.Act.{Act}

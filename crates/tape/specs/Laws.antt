@@ -8,7 +8,6 @@ use Rattle.tape.specs.declared.found.Found.the-variants.{Block, Mark, St
 use Rattle.tape.specs.declared.found.Why.{Why}
 use Rattle.tape.specs.declared.found.Why.the-variants.{End, Unknown, Bad}
 use Rattle.tape.specs.declared.pass.Passed.the-variants.{Stopped}
-use Rattle.tape.specs.declared.record.Made.{Made}
 use Rattle.tape.specs.declared.record.Made.the-variants.{Next, NoRoom}
 use Rattle.tape.specs.Record.{endKind, blockKind, markKind, bodySize, blockSize, markSize, markRecord, blockRecord, foundAt}
 use Rattle.tape.specs.Recording.{recorded, written, writtenAt}

@@ -1,7 +1,7 @@
 -- Demand 2: what raises a drive's EXCEPTION, and what alone takes it, the latched bits and the counts away.
 use Prim.Native.Nat.{ℕ, _+_, _*_, _≤_}
 use mathlib.Core.Path.{_≡_}
-use mathlib.Core.Bool.{Bool, true, false}
+use mathlib.Core.Bool.{true, false}
 use mathlib.Core.List.{List}
 use lib.ListN.{getD}
 use Rattle.rules.specs.declared.drive.Drive.{Drive}
