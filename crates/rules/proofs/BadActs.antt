@@ -11,6 +11,8 @@ use Rattle.tape.specs.declared.pass.Passed.{Passed}
 use Rattle.tape.specs.declared.pass.Passed.the-variants.{Past, Stopped}
 use Rattle.tape.specs.Record.{foundAt}
 use Rattle.tape.specs.Walk.{passed}
+use Rattle.tape.specs.Laws.{UnknownKind}
+use Rattle.tape.proofs.Standing.{found-unknown}
 use Rattle.tape.proofs.Walking.{passed-stops}
 use Rattle.rules.specs.declared.drive.Drive.{Drive}
 use Rattle.rules.specs.declared.drive.Mode.the-variants.{Reading}
@@ -28,18 +30,17 @@ use Rattle.rules.specs.Effect.{Seat, Acted, leaves, resting, ordered, fa
 use Rattle.rules.specs.Bytes.{handed}
 use Rattle.rules.specs.Step.{act}
 use Rattle.rules.specs.Promises.Orders.{decided}
-use Rattle.rules.specs.Promises.BadKinds.{UnknownKind, WholeBlock, BadRecord, GivesUde, read, readMark, firstByte, inside, lastByte}
-use Rattle.rules.specs.Promises.BadKinds.{Stands, stood, given}
+use Rattle.rules.specs.Promises.BadKinds.{WholeBlock, BadRecord, GivesUde, read, readMark, firstByte, inside, lastByte, StoodOr, stood, given}
 use Rattle.rules.proofs.Codes.{orders, read-code, pass-code}
 use Rattle.rules.proofs.Tests.{first-test-decides}
 use Rattle.rules.proofs.Acts
-use Rattle.rules.proofs.BadRecords.{found-unknown, whole-found, found-whole, stands-by, Told, halted-told, checked-told, Gives, halted-gives, checked-gives, spoilt-gives}
+use Rattle.rules.proofs.BadRecords.{whole-found, found-whole, stands-by, Told, halted-told, checked-told, Gives, halted-gives, checked-gives, spoilt-gives}
 
 -- ---- a bit that it leaves stood before, or a rule gave it
 
 pub record Tells (s : Seat) (a : Act) (m : Acted) : Type 0 where
-  pub ude : m .moved .drive .latched .ude ≡ true → Stands (s .drive .latched .ude) (GivesUde s a)
-  pub bnl : m .moved .drive .latched .bnl ≡ true → Stands (s .drive .latched .bnl) (GivesUde s a × UnknownKind (m .tape) (m .moved .drive .head))
+  pub ude : m .moved .drive .latched .ude ≡ true → StoodOr (s .drive .latched .ude) (GivesUde s a)
+  pub bnl : m .moved .drive .latched .bnl ≡ true → StoodOr (s .drive .latched .bnl) (GivesUde s a × UnknownKind (m .tape) (m .moved .drive .head))
   pub pair : (s .drive .latched .bnl ≡ true → s .drive .latched .ude ≡ true) → m .moved .drive .latched .bnl ≡ true → m .moved .drive .latched .ude ≡ true
 
 as-was : (s : Seat) (a : Act) (m : Acted) → m .moved .drive .latched .ude ≡ s .drive .latched .ude

@@ -1,22 +1,20 @@
 -- UDE and BNL of one event, and over a run.
 use Prim.Native.Nat.{ℕ, _≤_}
 use mathlib.Core.Path.{_≡_, refl, sym, ap, subst, _∙_}
-use mathlib.Core.Bool.{Bool, true, false, true≢false, false≢true}
+use mathlib.Core.Bool.{true, false, true≢false, false≢true}
 use mathlib.Core.List.{List, [], _∷_}
 use native.Mathlib.Omega.{arith}
 use lib.ListN.{length-replicate}
-use Rattle.basis.specs.Choice.{pick}
 use Rattle.rules.specs.declared.drive.Drive.{Drive}
 use Rattle.rules.specs.declared.unit.Core.{Core}
 use Rattle.rules.specs.declared.event.Act.{Act}
-use Rattle.rules.specs.declared.event.Act.the-variants.{Take}
 use Rattle.rules.specs.declared.event.What.{What}
 use Rattle.rules.specs.declared.event.What.the-variants.{In, Out, Error, Underrun}
 use Rattle.rules.specs.declared.event.Event.{Event}
 use Rattle.rules.specs.declared.event.Event.the-variants.{NoEvent, Reset, Named, Own}
 use Rattle.rules.specs.declared.answer.Answer.{Answer}
-use Rattle.rules.specs.declared.answer.Answer.the-variants.{Taken, Raised}
-use Rattle.rules.specs.Drive.{freshDrive, wasReset}
+use Rattle.rules.specs.declared.answer.Answer.the-variants.{Taken}
+use Rattle.rules.specs.Drive.{freshDrive}
 use Rattle.rules.specs.Unit.{Lent, Whole, driveAt, freshCore, resetCore}
 use Rattle.rules.specs.Event.{eventOf}
 use Rattle.rules.specs.Answer.{rowOf}
@@ -25,29 +23,21 @@ use Rattle.rules.specs.Effect.{Acted}
 use Rattle.rules.specs.Slot.{befallen}
 use Rattle.rules.specs.Step.{Stepped, act, stagedIn, seatOf, refused, effectOf}
 use Rattle.rules.specs.Run.{World, after, run, freshWorld}
-use Rattle.rules.specs.Promises.BadKinds.{GivesUde}
-use Rattle.rules.specs.Promises.BadKinds.{ByUde, UnknownLeft, stood, OnlyGiven, KindTold, KindsTold, BnlWithUde}
+use Rattle.rules.specs.Promises.BadKinds.{GivesUde, ByUde, UnknownLeft, stood, OnlyGiven, KindTold, KindsTold, BnlWithUde}
 use Rattle.rules.proofs.Places.{Got, same, other, put-same, one-holds}
 use Rattle.rules.proofs.Sound.{Sound}
 use Rattle.rules.proofs.Codes.{named-real}
 use Rattle.rules.proofs.BadRecords.{stands-by, Gives}
 use Rattle.rules.proofs.BadActs.{Tells, does-tells, act-gives}
-use Rattle.rules.proofs.Status.{own-drive, named-drive}
+use Rattle.rules.proofs.Refused.{taken-not-refused}
+use Rattle.rules.proofs.Status.{own-drive, named-drive, reset-holds}
 use Rattle.rules.proofs.StepBy.{step-sound, own-does}
 use Rattle.rules.proofs.Keeps.{staging-stays-whole}
 
 -- ---- of one event
 
-abbrev actOf : Event → Act
-actOf NoEvent = Take
-actOf Reset = Take
-actOf (Named i w) = Take
-actOf (Own a) = a
-
-not-refused : (b : Bool) → rowOf (pick b Raised Taken) .refuses ≡ false
-unfolding pick
-not-refused true = refl
-not-refused false = refl
+own-is : {a b : Act} → Own a ≡ Own b → a ≡ b
+own-is e = cc
 
 befallen-same : (w : What) (d : Drive) → (befallen w d .latched .ude ≡ d .latched .ude) × (befallen w d .latched .bnl ≡ d .latched .bnl)
 befallen-same (In p) d = (refl, refl)
@@ -61,9 +51,7 @@ neither d = (d .latched .ude ≡ false) × (d .latched .bnl ≡ false)
 
 reset-neither : (c : Core) (i : ℕ) → neither (driveAt (resetCore c) i)
 unfolding neither
-reset-neither c i =
-    one-holds neither {a = wasReset (c .drive0)} {b = wasReset (c .drive1)} {c = wasReset (c .drive2)} {d = wasReset (c .drive3)} (refl, refl) (refl, refl)
-    (refl, refl) (refl, refl) i
+reset-neither c i = reset-holds neither (λ d. (refl, refl)) c i
 
 fresh-neither : (i : ℕ) → neither (driveAt freshCore i)
 unfolding neither
@@ -117,10 +105,10 @@ module _ (c : Core) (l : Lent) (event : List ℕ) where
     tells = does-tells (stagedIn c a l .staging) (seatOf c l) a (own-does c l a k h)
 
     by : GivesUde (seatOf c l) a → ByUde c l event x
-    by r = record { act = a; event-is = q; taken = not-refused (m .moved .raised); rule = r }
+    by r = record { act = a; event-is = q; taken = taken-not-refused (m .moved .raised); rule = r }
 
     gives : ByUde c l event x → Gives (m .tape) (m .moved .drive)
-    gives y = act-gives (stagedIn c a l .staging) (seatOf c l) a (rw (ap actOf (sym (y .event-is) ∙ q)) at (y .rule))
+    gives y = act-gives (stagedIn c a l .staging) (seatOf c l) a (subst (GivesUde (seatOf c l)) (own-is (sym (y .event-is) ∙ q)) (y .rule))
 
     here : OnlyGiven c l event x (c .port .selected)
     here =

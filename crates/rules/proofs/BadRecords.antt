@@ -1,6 +1,6 @@
 -- A bad record at a drive's head, by its numbers, and the bits that it leaves the drive with.
 use Prim.Native.Nat.{ℕ}
-use mathlib.Core.Path.{_≡_, refl, subst}
+use mathlib.Core.Path.{_≡_, refl}
 use mathlib.Core.Bool.{Bool, true}
 use mathlib.Core.List.{List}
 use native.Mathlib.Omega.{arith}
@@ -9,43 +9,27 @@ use Rattle.tape.specs.declared.found.Found.the-variants.{Block, Mark, Stop}
 use Rattle.tape.specs.declared.found.Why.{Why}
 use Rattle.tape.specs.declared.found.Why.the-variants.{End, Unknown, Bad}
 use Rattle.tape.specs.Record.{foundAt}
-use Rattle.tape.specs.Laws
-use Rattle.tape.specs.Laws.{whole-block, other-kind, cut-block, off-tape}
-use Rattle.tape.proofs.Standing.{case-found, found-case}
+use Rattle.tape.specs.Laws.{Stands, whole-block, cut-block, off-tape, UnknownKind}
+use Rattle.tape.proofs.Standing.{case-found, found-case, unknown-found, found-unknown}
 use Rattle.rules.specs.declared.drive.Drive.{Drive}
 use Rattle.rules.specs.Edge.{halted, spoilt, edged, checked}
-use Rattle.rules.specs.Effect.{leaves}
-use Rattle.rules.specs.Promises.BadKinds.{UnknownKind, WholeBlock, BadRecord, unknown, runsPast, above}
-use Rattle.rules.specs.Promises.BadKinds.{Stands, stood, given}
-
--- ---- what stands at an offset, by its numbers
-
-pub unknown-found : (t : List ℕ) (h : ℕ) → UnknownKind t h → foundAt t h ≡ Stop Unknown
-unknown-found t h u =
-    let k = u .kind in
-    case-found t h (Stop Unknown) (other-kind (u .there) (λ e. omega (arith, k, e)) (λ e. omega (arith, k, e)) (λ e. omega (arith, k, e)))
-
-pub found-unknown : (t : List ℕ) (h : ℕ) → foundAt t h ≡ Stop Unknown → UnknownKind t h
-found-unknown t h e = go (subst (λ (f : Found). Laws.Stands t h f) e (found-case t h))
-  where
-    go : Laws.Stands t h (Stop Unknown) → UnknownKind t h
-    go (other-kind b k0 k1 k2) = record { there = b; kind = omega (arith, k0, k1, k2) }
-
-found-bad : (t : List ℕ) (h : ℕ) → foundAt t h ≡ Stop Bad → BadRecord t h
-found-bad t h e = go (subst (λ (f : Found). Laws.Stands t h f) e (found-case t h))
-  where
-    go : Laws.Stands t h (Stop Bad) → BadRecord t h
-    go (cut-block b s k) = runsPast b k s
-    go (off-tape b) = above b
+use Rattle.rules.specs.Promises.BadKinds.{WholeBlock, BadRecord, unknown, runsPast, above, StoodOr, stood, given}
 
 pub whole-found : (t : List ℕ) (h : ℕ) → WholeBlock t h → foundAt t h ≡ Block
 whole-found t h b = case-found t h Block (whole-block (b .ends) (b .kind))
 
 pub found-whole : (t : List ℕ) (h : ℕ) → foundAt t h ≡ Block → WholeBlock t h
-found-whole t h e = go (subst (λ (f : Found). Laws.Stands t h f) e (found-case t h))
+found-whole t h e = go (found-case t h Block e)
   where
-    go : Laws.Stands t h Block → WholeBlock t h
+    go : Stands t h Block → WholeBlock t h
     go (whole-block b k) = record { kind = k; ends = b }
+
+found-bad : (t : List ℕ) (h : ℕ) → foundAt t h ≡ Stop Bad → BadRecord t h
+found-bad t h e = go (found-case t h (Stop Bad) e)
+  where
+    go : Stands t h (Stop Bad) → BadRecord t h
+    go (cut-block b s k) = runsPast b k s
+    go (off-tape b) = above b
 
 -- A bad record by what is found there.
 data Broken (t : List ℕ) (h : ℕ) : Type 0 where
@@ -59,14 +43,14 @@ bad-found t h (above b) = otherwise (case-found t h (Stop Bad) (off-tape b))
 
 -- ---- a bit that stands: what a drive is left with tells of the record at its head
 
-pub stands-by : {b : Bool} {X Y : Type 0} → (X → Y) → Stands b X → Stands b Y
+pub stands-by : {b : Bool} {X Y : Type 0} → (X → Y) → StoodOr b X → StoodOr b Y
 stands-by f (stood e) = stood e
 stands-by f (given x) = given (f x)
 
 -- The record at the head of d, and what d became by it.
 pub record Told (t : List ℕ) (d e : Drive) : Type 0 where
-  pub ude : e .latched .ude ≡ true → Stands (d .latched .ude) (BadRecord t (d .head))
-  pub bnl : e .latched .bnl ≡ true → Stands (d .latched .bnl) (BadRecord t (d .head) × UnknownKind t (e .head))
+  pub ude : e .latched .ude ≡ true → StoodOr (d .latched .ude) (BadRecord t (d .head))
+  pub bnl : e .latched .bnl ≡ true → StoodOr (d .latched .bnl) (BadRecord t (d .head) × UnknownKind t (e .head))
   pub pair : (d .latched .bnl ≡ true → d .latched .ude ≡ true) → e .latched .bnl ≡ true → e .latched .ude ≡ true
 
 pub halted-told : (t : List ℕ) (d : Drive) (w : Why) → foundAt t (d .head) ≡ Stop w → Told t d (halted w d)

@@ -83,10 +83,12 @@ befallen-held d Out h = refl
 befallen-held d Error h = h
 befallen-held d Underrun h = h
 
+-- what holds of every drive that was reset holds of each after RESET
+pub reset-holds : (P : Drive → Type 0) → ((d : Drive) → P (wasReset d)) → (c : Core) (i : ℕ) → P (driveAt (resetCore c) i)
+reset-holds P f c i = one-holds P (f (c .drive0)) (f (c .drive1)) (f (c .drive2)) (f (c .drive3)) i
+
 reset-up : (c : Core) (i : ℕ) → driveAt (resetCore c) i .exception ≡ true
-reset-up c i =
-    one-holds (λ (d : Drive). d .exception ≡ true) {a = wasReset (c .drive0)} {b = wasReset (c .drive1)} {c = wasReset (c .drive2)}
-    {d = wasReset (c .drive3)} refl refl refl refl i
+reset-up = reset-holds (λ d. d .exception ≡ true) (λ d. refl)
 
 module _ (c : Core) (l : Lent) (event : List ℕ) (i : ℕ) (real : i ≤ 3) (up : driveAt c i .exception ≡ true) where
   fell : {b : Bool} → b ≡ true → b ≡ false → ByStatus c event i

@@ -1,12 +1,11 @@
 -- Bytes that stand on a tape.
 use Prim.Native.Nat.{ℕ, zero, suc, _+_, _≤_, _<_}
-use mathlib.Core.Path.{_≡_, refl, sym, ap, subst, _∙_}
+use mathlib.Core.Path.{_≡_, refl, sym, ap, _∙_}
 use mathlib.Core.List.{List, [], _∷_, _++_, append-assoc}
 use native.Mathlib.Omega.{arith}
 use native.Mathlib.Nat.{zero-add, suc-add, add-zero}
 use lib.ListN.{length, getD, take, drop, length-append, length-take, length-drop}
 use lib.Seq.{take-at, drop-at, take-nil, take-take, take-add, drop-drop, getD-take, getD-drop, drop-cons, length-take-le}
-use Rattle.tape.specs.declared.found.Found.{Found}
 use Rattle.tape.specs.declared.found.Found.the-variants.{Block, Mark}
 use Rattle.tape.specs.declared.pass.Passed.the-variants.{Past}
 use Rattle.tape.specs.Record.{markRecord, blockRecord, foundAt}
@@ -103,7 +102,7 @@ held-mark t h p =
     case-found t h Mark (one-mark (omega (arith, held-inside t markRecord h (omega arith) p)) (rw add-zero at (held-byte t markRecord h 0 (omega arith) p)))
 
 pub found-holds : FoundHolds
-found-holds t h f = go (subst (λ (x : Found). Stands t h x) f (found-case t h))
+found-holds t h f = go (found-case t h Block f)
   where
     go : Stands t h Block → (length (bodyAt t h) ≡ 512) × Holds t h (blockRecord (bodyAt t h))
     go (whole-block b k) =
@@ -118,13 +117,13 @@ byte-same : (t u : List ℕ) (a k : ℕ) → take a t ≡ take a u → k < a →
 byte-same t u a k e l = sym (getD-take a u k 0 l) ∙ ap (λ (x : List ℕ). getD x k 0) (sym e) ∙ getD-take a t k 0 l
 
 block-same : (t u : List ℕ) (a k : ℕ) → take a t ≡ take a u → a ≤ length u → k + 513 ≤ a → foundAt t k ≡ Block → foundAt u k ≡ Block
-block-same t u a k e n l f = go (subst (λ (x : Found). Stands t k x) f (found-case t k))
+block-same t u a k e n l f = go (found-case t k Block f)
   where
     go : Stands t k Block → foundAt u k ≡ Block
     go (whole-block b q) = case-found u k Block (whole-block (omega arith) (byte-same t u a k e (omega arith) ∙ q))
 
 mark-same : (t u : List ℕ) (a k : ℕ) → take a t ≡ take a u → a ≤ length u → k + 1 ≤ a → foundAt t k ≡ Mark → foundAt u k ≡ Mark
-mark-same t u a k e n l f = go (subst (λ (x : Found). Stands t k x) f (found-case t k))
+mark-same t u a k e n l f = go (found-case t k Mark f)
   where
     go : Stands t k Mark → foundAt u k ≡ Mark
     go (one-mark b q) = case-found u k Mark (one-mark (omega arith) (byte-same t u a k e (omega arith) ∙ q))

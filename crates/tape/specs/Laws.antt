@@ -28,7 +28,18 @@ abbrev pub CaseFound : Type 0
 CaseFound = (t : List ℕ) (h : ℕ) (f : Found) → Stands t h f → foundAt t h ≡ f
 
 abbrev pub FoundCase : Type 0
-FoundCase = (t : List ℕ) (h : ℕ) → Stands t h (foundAt t h)
+FoundCase = (t : List ℕ) (h : ℕ) (f : Found) → foundAt t h ≡ f → Stands t h f
+
+-- A kind that nobody knows: a byte of the tape, 03 to FF.
+pub record UnknownKind (t : List ℕ) (h : ℕ) : Type 0 where
+  pub there : h < length t
+  pub kind : 3 ≤ getD t h 0
+
+abbrev pub UnknownFound : Type 0
+UnknownFound = (t : List ℕ) (h : ℕ) → UnknownKind t h → foundAt t h ≡ Stop Unknown
+
+abbrev pub FoundUnknown : Type 0
+FoundUnknown = (t : List ℕ) (h : ℕ) → foundAt t h ≡ Stop Unknown → UnknownKind t h
 
 -- A block or a mark that is found ends inside the tape.
 abbrev pub BlockFits : Type 0

@@ -7,6 +7,7 @@ use lib.ListN.{length, getD}
 use Rattle.tape.specs.declared.found.Why.{Why}
 use Rattle.tape.specs.declared.pass.Passed.the-variants.{Stopped}
 use Rattle.tape.specs.Walk.{passed}
+use Rattle.tape.specs.Laws.{UnknownKind}
 use Rattle.rules.specs.declared.unit.Core.{Core}
 use Rattle.rules.specs.declared.phase.Phase.the-variants.{Rest, Giving}
 use Rattle.rules.specs.declared.event.Act.{Act}
@@ -21,28 +22,19 @@ use Rattle.rules.specs.Step.{Stepped, seatOf, stepOf}
 use Rattle.rules.specs.Run.{run, freshWorld}
 use Rattle.rules.specs.Promises.Orders.{decided}
 
--- ---- What stands at offset h of the tape t, by its numbers
-
--- A kind that nobody knows: a byte of the tape, 03 to FF.
-pub record UnknownKind (t : List ℕ) (h : ℕ) : Type 0 where
-  pub there : h < length t
-  pub kind : 3 ≤ getD t h 0
-
--- A whole block.
+-- At offset h of the tape t a whole block, by its numbers.
 pub record WholeBlock (t : List ℕ) (h : ℕ) : Type 0 where
   pub kind : getD t h 0 ≡ 1
   pub ends : h + 513 ≤ length t
 
--- A bad record: of a kind that nobody knows, a block that runs past the tape's end, or above the tape.
+-- A bad record: of a kind that nobody knows (03 to FF), a block that runs past the tape's end, or above the tape.
 pub data BadRecord (t : List ℕ) (h : ℕ) : Type 0 where
   unknown : UnknownKind t h → BadRecord t h
   runsPast : h < length t → getD t h 0 ≡ 1 → length t < h + 513 → BadRecord t h
   above : length t < h → BadRecord t h
 
--- ---- What gives UDE, where the selected drive sees s
-
--- The edge check of READ (80); READ FILE MARK (A0), where it stopped; the edge check repeated at Rest;
--- inside a block all but a whole block; the edge check behind byte 512.
+-- What gives UDE, where the selected drive sees s: the edge check of READ (80); READ FILE MARK (A0), where it stopped;
+-- the edge check repeated at Rest; inside a block all but a whole block; the edge check behind byte 512.
 pub data GivesUde (s : Seat) : Act → Type 0 where
   read : decided s 128 ≡ Fine → BadRecord (s .tape) (s .drive .head) → GivesUde s (Command 128)
   readMark : decided s 160 ≡ Fine → (at : ℕ) (w : Why) → passed (s .tape) (s .drive .head) ≡ Stopped at w → BadRecord (s .tape) at
@@ -63,15 +55,15 @@ abbrev pub UnknownLeft : Stepped → ℕ → Type 0
 UnknownLeft x i = UnknownKind (tapeAt (x .lent) i) (driveAt (x .turn .core) i .head)
 
 -- A bit that stands stood before, or was given.
-pub data Stands (before : Bool) (Given : Type 0) : Type 0 where
-  stood : before ≡ true → Stands before Given
-  given : Given → Stands before Given
+pub data StoodOr (before : Bool) (Given : Type 0) : Type 0 where
+  stood : before ≡ true → StoodOr before Given
+  given : Given → StoodOr before Given
 
 -- What stands on drive i after the event stood before it or was given by its rule; and BNL does not come to stand there without UDE.
 pub record OnlyGiven (c : Core) (l : Lent) (event : List ℕ) (x : Stepped) (i : ℕ) : Type 0 where
-  pub ude : driveAt (x .turn .core) i .latched .ude ≡ true → Stands (driveAt c i .latched .ude) ((c .port .selected ≡ i) × ByUde c l event x)
+  pub ude : driveAt (x .turn .core) i .latched .ude ≡ true → StoodOr (driveAt c i .latched .ude) ((c .port .selected ≡ i) × ByUde c l event x)
   pub bnl : driveAt (x .turn .core) i .latched .bnl ≡ true
-      → Stands (driveAt c i .latched .bnl) ((c .port .selected ≡ i) × ByUde c l event x × UnknownLeft x i)
+      → StoodOr (driveAt c i .latched .bnl) ((c .port .selected ≡ i) × ByUde c l event x × UnknownLeft x i)
   pub pair : (driveAt c i .latched .bnl ≡ true → driveAt c i .latched .ude ≡ true)
       → driveAt (x .turn .core) i .latched .bnl ≡ true → driveAt (x .turn .core) i .latched .ude ≡ true
 
