@@ -1,2 +1,1 @@
-mod Octet
 pub mod Outcomes

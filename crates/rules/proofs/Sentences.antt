@@ -11,7 +11,7 @@ use Rattle.rules.specs.Refusal.{possibleDrive, possiblePhase, possible, 
 use Rattle.rules.specs.Lines.{linesOf}
 use Rattle.rules.specs.Order.{orderOf, illegal, faultBy}
 use Rattle.rules.specs.Edge.{checked}
-use Rattle.rules.specs.Octets.{withTop, octet0, octet1, octetsOf}
+use Rattle.rules.specs.Octets.{octetsOf}
 use Rattle.rules.specs.Effect.{faultOf}
 use Rattle.rules.specs.Bytes.{stagedByte, afterBlock, stored, handed, octetTaken}
 use Rattle.rules.specs.Online.{dropped}
@@ -21,7 +21,7 @@ use Rattle.rules.specs.Promises.Sentences.{SentencesHold}
 
 pub sentences-hold : SentencesHold
 unfolding pick ofKind foundAt recorded walk trail counted oneOf putAt putLast bareEvent bodiedEvent eventOf possibleDrive possiblePhase possible
-    short refusalOf linesOf orderOf illegal faultBy checked withTop octet0 octet1 octetsOf faultOf stagedByte afterBlock stored handed octetTaken
+    short refusalOf linesOf orderOf illegal faultBy checked octetsOf faultOf stagedByte afterBlock stored handed octetTaken
     dropped stepBy stepOf after turnOf
 sentences-hold =
     record {

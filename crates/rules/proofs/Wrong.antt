@@ -1,11 +1,11 @@
 -- Easy to get wrong: the laws, from the promises and from what the events do.
 use Prim.Native.Nat.{ℕ, _+_, _≤_}
 use mathlib.Core.Path.{_≡_, refl, sym, ap, subst, _∙_}
-use mathlib.Core.Bool.{Bool, true, false, true≢false}
+use mathlib.Core.Bool.{Bool, true, false, not, true≢false}
 use mathlib.Core.List.{List, [], _∷_}
 use native.Mathlib.Omega.{arith}
+use lib.Dec.{eqb}
 use lib.ListN.{set}
-use borrow.Author.Tests.{ne-eqb}
 use Rattle.basis.specs.Choice.{pick}
 use Rattle.tape.specs.Record.{markRecord}
 use Rattle.tape.specs.Recording.{recorded}
@@ -29,7 +29,7 @@ use Rattle.rules.specs.Unit.{Lent, Whole, driveAt, tapeAt}
 use Rattle.rules.specs.Event.{eventOf}
 use Rattle.rules.specs.Answer.{rowOf}
 use Rattle.rules.specs.Refusal.{refusalIn}
-use Rattle.rules.specs.Octets.{cni, withTop, bit, octet0}
+use Rattle.rules.specs.Octets.{cni, bit, octetsOf, octet0}
 use Rattle.rules.specs.Effect.{Seat, Acted, faultOf, commanded}
 use Rattle.rules.specs.Bytes.{stagedByte}
 use Rattle.rules.specs.Step.{Stepped, seatOf, landed, effectOf, stepOf}
@@ -71,22 +71,19 @@ bit-most : (w : ℕ) (b : Bool) → bit w b ≤ w
 bit-most w true = omega arith
 bit-most w false = omega arith
 
--- with CNI, whatever bits below its place stand
-shown-over : (x : ℕ) → x ≤ 63 → Shows cni (withTop (64 + x))
-unfolding withTop pick
-shown-over x l = rw (ne-eqb (64 + x) 0 (λ e. omega (arith, e))) (omega (arith, l))
+-- with CNI, whatever bits below and above its place stand
+shown-over : (x : ℕ) → x ≤ 63 → (b : Bool) → Shows cni (x + 64 + bit 128 b)
+shown-over x l true = omega (arith, l)
+shown-over x l false = omega (arith, l)
 
 latched-shows : (d : Drive) → d .latched .cni ≡ true → Shows cni (octet0 d)
-unfolding octet0
+unfolding octetsOf
 latched-shows d h =
-    let p = bit 16 (d .protected) in
-    let m = bit 8 (d .latched .eom) in
-    let u = bit 4 (d .latched .ude) in
-    let n = bit 2 (d .latched .bnl) in
-    let f = bit 1 (d .latched .fil) in
-    let below : p + (m + (u + (n + f))) ≤ 63 =
-    omega (arith, bit-most 16 (d .protected), bit-most 8 (d .latched .eom), bit-most 4 (d .latched .ude), bit-most 2 (d .latched .bnl), bit-most 1 (d .latched .fil)) in
-    rw h (subst (λ (x : ℕ). Shows cni (withTop x)) (omega arith) (shown-over (p + (m + (u + (n + f)))) below))
+    let l = d .latched in
+    let x = bit 1 (l .fil) + bit 2 (l .bnl) + bit 4 (l .ude) + bit 8 (l .eom) + bit 16 (d .protected) + 0 in
+    let below : x ≤ 63 =
+    omega (arith, bit-most 1 (l .fil), bit-most 2 (l .bnl), bit-most 4 (l .ude), bit-most 8 (l .eom), bit-most 16 (d .protected)) in
+    rw h (shown-over x below (not (eqb (x + 64) 0)))
 
 pub cni-still-shows : CniStillShows
 unfolding after

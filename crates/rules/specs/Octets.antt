@@ -3,91 +3,42 @@ use Prim.Native.Nat.{ℕ, _+_, _/_, _%_}
 use mathlib.Core.Bool.{Bool, true, false, not, _&&_, _||_}
 use mathlib.Core.List.{List, [], _∷_}
 use lib.Dec.{eqb}
-use Rattle.basis.specs.Choice.{pick}
+use lib.ListN.{getD}
 use Rattle.rules.specs.declared.drive.Drive.{Drive}
 use Rattle.rules.specs.declared.drive.Errors.{Errors}
 use Rattle.rules.specs.declared.drive.Underruns.{Underruns}
 
--- The places of the bits in octet 0 and in octet 1, by their weights; the top bit is ST0 or ST1.
-abbrev pub top : ℕ
-top = 128
+-- The places of the bits in an octet, by their weights.
+abbrev pub bit0 : ℕ
+bit0 = 1
 
-abbrev pub cni : ℕ
-cni = 64
+abbrev pub bit1 : ℕ
+bit1 = 2
 
-abbrev pub usl : ℕ
-usl = 32
+abbrev pub bit2 : ℕ
+bit2 = 4
 
-abbrev pub wrp : ℕ
-wrp = 16
+abbrev pub bit3 : ℕ
+bit3 = 8
 
-abbrev pub eom : ℕ
-eom = 8
+abbrev pub bit4 : ℕ
+bit4 = 16
 
-abbrev pub ude : ℕ
-ude = 4
+abbrev pub bit5 : ℕ
+bit5 = 32
 
-abbrev pub bnl : ℕ
-bnl = 2
+abbrev pub bit6 : ℕ
+bit6 = 64
 
-abbrev pub fil : ℕ
-fil = 1
-
-abbrev pub ill : ℕ
-ill = 64
-
-abbrev pub ndt : ℕ
-ndt = 32
-
-abbrev pub mbd : ℕ
-mbd = 16
-
-abbrev pub bom : ℕ
-bom = 8
-
-abbrev pub bpe : ℕ
-bpe = 4
-
-abbrev pub erm : ℕ
-erm = 2
-
-abbrev pub por : ℕ
-por = 1
+abbrev pub bit7 : ℕ
+bit7 = 128
 
 -- The weight of a bit that stands.
 abbrev pub bit : ℕ → Bool → ℕ
 bit weight true = weight
 bit weight false = 0
 
--- The top bit of an octet stands where any other does.
-unfoldable pub withTop : ℕ → ℕ
-withTop rest = pick (eqb rest 0) 0 (top + rest)
-
--- Octet 0 from ST0 down, a line for each bit: CNI also shows an empty slot, WRP the plug; USL is never set.
-unfoldable pub octet0 : Drive → ℕ
-octet0 d =
-    withTop
-    (bit cni (d .latched .cni || not (d .loaded))
-    + bit usl false
-    + bit wrp (d .protected)
-    + bit eom (d .latched .eom)
-    + bit ude (d .latched .ude)
-    + bit bnl (d .latched .bnl)
-    + bit fil (d .latched .fil))
-
--- Octet 1 from ST1 down: BOM shows a cartridge that stands at its beginning; three are never set.
-unfoldable pub octet1 : Drive → ℕ
-octet1 d =
-    withTop
-    (bit ill (d .latched .ill)
-    + bit ndt (d .latched .ndt)
-    + bit mbd false
-    + bit bom (d .loaded && eqb (d .head) 0)
-    + bit bpe false
-    + bit erm false
-    + bit por (d .latched .por))
-
--- The halves of each counter; the errors come before the underruns, high half first.
+-- The halves of each counter.
 abbrev pub errorsHigh : Errors → ℕ
 errorsHigh e = e .0 / 256
 
@@ -100,6 +51,43 @@ underrunsHigh n = n .0 / 256
 abbrev pub underrunsLow : Underruns → ℕ
 underrunsLow n = n .0 % 256
 
+-- Octets 1 and 0 as section 5 of QIC-02 Rev D lists them, a line for each bit from bit 0 to bit 7: its name, its place, where it comes from.
+-- A name of document 01 that differs stands behind the standard's: RES is ERM and BPE, UDA is UDE. A bit that is never set comes from `false`.
 unfoldable pub octetsOf : Drive → List ℕ
-octetsOf d =
-    octet0 d ∷ octet1 d ∷ errorsHigh (d .errors) ∷ errorsLow (d .errors) ∷ underrunsHigh (d .underruns) ∷ underrunsLow (d .underruns) ∷ []
+octetsOf drive =
+    let latched = drive .latched in
+    let rewound = eqb (drive .head) 0 in
+    -- octet 1
+    let por = bit bit0 (latched .por) in
+    let res-erm = bit bit1 false in
+    let res-bpe = bit bit2 false in
+    let bom = bit bit3 (drive .loaded && rewound) in
+    let mbd = bit bit4 false in
+    let ndt = bit bit5 (latched .ndt) in
+    let ill = bit bit6 (latched .ill) in
+    let st1 = bit bit7 (not (eqb (por + res-erm + res-bpe + bom + mbd + ndt + ill) 0)) in
+    let octet1 = por + res-erm + res-bpe + bom + mbd + ndt + ill + st1 in
+    -- octet 0
+    let fil = bit bit0 (latched .fil) in
+    let bnl = bit bit1 (latched .bnl) in
+    let uda-ude = bit bit2 (latched .ude) in
+    let eom = bit bit3 (latched .eom) in
+    let wrp = bit bit4 (drive .protected) in
+    let usl = bit bit5 false in
+    let cni = bit bit6 (latched .cni || not (drive .loaded)) in
+    let st0 = bit bit7 (not (eqb (fil + bnl + uda-ude + eom + wrp + usl + cni) 0)) in
+    let octet0 = fil + bnl + uda-ude + eom + wrp + usl + cni + st0 in
+    octet0
+    ∷ octet1
+    ∷ errorsHigh (drive .errors)
+    ∷ errorsLow (drive .errors)
+    ∷ underrunsHigh (drive .underruns)
+    ∷ underrunsLow (drive .underruns)
+    ∷ []
+
+-- Octet 0 by itself, and the place of CNI in it.
+abbrev pub octet0 : Drive → ℕ
+octet0 d = getD (octetsOf d) 0 0
+
+abbrev pub cni : ℕ
+cni = bit6

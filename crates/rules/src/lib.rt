@@ -42,37 +42,3 @@ pub const WRITE_ROOM: usize = tape::BLOCK_SIZE + KEPT;
 
 // The highest count.
 pub const HIGHEST: u16 = 65535;
-
-// Octet 0, bit 7 down.
-pub const ST0: u8 = 128;
-
-pub const CNI: u8 = 64;
-
-pub const USL: u8 = 32;
-
-pub const WRP: u8 = 16;
-
-pub const EOM: u8 = 8;
-
-pub const UDE: u8 = 4;
-
-pub const BNL: u8 = 2;
-
-pub const FIL: u8 = 1;
-
-// Octet 1, bit 7 down.
-pub const ST1: u8 = 128;
-
-pub const ILL: u8 = 64;
-
-pub const NDT: u8 = 32;
-
-pub const MBD: u8 = 16;
-
-pub const BOM: u8 = 8;
-
-pub const BPE: u8 = 4;
-
-pub const ERM: u8 = 2;
-
-pub const POR: u8 = 1;

@@ -8,7 +8,7 @@ use Rattle.rules.specs.Event.{bareEvent, bodiedEvent, eventOf}
 use Rattle.rules.specs.Refusal.{possibleDrive, possiblePhase, possible, short, refusalOf}
 use Rattle.rules.specs.Lines.{linesOf}
 use Rattle.rules.specs.Order.{orderOf, illegal, faultBy}
-use Rattle.rules.specs.Octets.{withTop, octet0, octet1, octetsOf}
+use Rattle.rules.specs.Octets.{octetsOf}
 use Rattle.rules.specs.Effect.{faultOf}
 use Rattle.rules.specs.Bytes.{octetTaken}
 use Rattle.rules.specs.Step.{stepBy, stepOf}
@@ -21,6 +21,6 @@ use Rattle.trace.specs.Sample.{SampleTold}
 
 pub sample-told : SampleTold
 unfolding pick ofKind foundAt counted oneOf putAt putLast bareEvent bodiedEvent eventOf possibleDrive possiblePhase possible short refusalOf
-    linesOf orderOf illegal faultBy withTop octet0 octet1 octetsOf faultOf octetTaken stepBy stepOf after turnOf kindSize cutBy cutOf nextSize
+    linesOf orderOf illegal faultBy octetsOf faultOf octetTaken stepBy stepOf after turnOf kindSize cutBy cutOf nextSize
     eventsOf digit decimal orDash fieldsOf lineOf lineIn stops
 sample-told = record { text = refl; count = refl; stopped = refl }
