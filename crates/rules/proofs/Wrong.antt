@@ -29,7 +29,7 @@ use Rattle.rules.specs.Unit.{Lent, Whole, driveAt, tapeAt}
 use Rattle.rules.specs.Event.{eventOf}
 use Rattle.rules.specs.Answer.{rowOf}
 use Rattle.rules.specs.Refusal.{refusalIn}
-use Rattle.rules.specs.Octets.{cni, bit, octetsOf, octet0}
+use Rattle.rules.specs.Octets.{bit0, bit1, bit2, bit3, bit4, bit5, bit7, bit, octetsOf, octet0, cni}
 use Rattle.rules.specs.Effect.{Seat, Acted, faultOf, commanded}
 use Rattle.rules.specs.Bytes.{stagedByte}
 use Rattle.rules.specs.Step.{Stepped, seatOf, landed, effectOf, stepOf}
@@ -72,7 +72,7 @@ bit-most w true = omega arith
 bit-most w false = omega arith
 
 -- with CNI, whatever bits below and above its place stand
-shown-over : (x : ℕ) → x ≤ 63 → (b : Bool) → Shows cni (x + 64 + bit 128 b)
+shown-over : (x : ℕ) → x ≤ 63 → (b : Bool) → Shows cni (x + cni + bit bit7 b)
 shown-over x l true = omega (arith, l)
 shown-over x l false = omega (arith, l)
 
@@ -80,10 +80,10 @@ latched-shows : (d : Drive) → d .latched .cni ≡ true → Shows cni (octet0 d
 unfolding octetsOf
 latched-shows d h =
     let l = d .latched in
-    let x = bit 1 (l .fil) + bit 2 (l .bnl) + bit 4 (l .ude) + bit 8 (l .eom) + bit 16 (d .protected) + 0 in
+    let x = bit bit0 (l .fil) + bit bit1 (l .bnl) + bit bit2 (l .ude) + bit bit3 (l .eom) + bit bit4 (d .protected) + bit bit5 false in
     let below : x ≤ 63 =
-    omega (arith, bit-most 1 (l .fil), bit-most 2 (l .bnl), bit-most 4 (l .ude), bit-most 8 (l .eom), bit-most 16 (d .protected)) in
-    rw h (shown-over x below (not (eqb (x + 64) 0)))
+    omega (arith, bit-most bit0 (l .fil), bit-most bit1 (l .bnl), bit-most bit2 (l .ude), bit-most bit3 (l .eom), bit-most bit4 (d .protected)) in
+    rw h (shown-over x below (not (eqb (x + cni) 0)))
 
 pub cni-still-shows : CniStillShows
 unfolding after

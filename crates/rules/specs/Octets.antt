@@ -38,7 +38,7 @@ abbrev pub bit : ℕ → Bool → ℕ
 bit weight true = weight
 bit weight false = 0
 
--- The halves of each counter.
+-- The halves of each counter; the errors come before the underruns, high half first.
 abbrev pub errorsHigh : Errors → ℕ
 errorsHigh e = e .0 / 256
 
