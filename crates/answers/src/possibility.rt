@@ -1,11 +1,12 @@
 // Answer 5: whether a unit record is possible.
 ghost use mathlib.Core.Path.{_≡_};
 ghost use Rattle.rules.specs.Unit.{driveAt};
-ghost use Rattle.rules.specs.Refusal.{modeFits, possibleDrive, possiblePhase, possible};
+ghost use Rattle.rules.specs.Refusal.{modeFits, lateFits, possibleDrive, possiblePhase, possible};
 use crate::LAST_DRIVE;
 use rules::Core;
 use rules::Drive;
 use rules::LAST_PLACE;
+use rules::LATE_BLOCKS;
 use rules::Mode;
 use rules::OCTETS;
 use rules::Phase;
@@ -25,13 +26,25 @@ fn mode_fits(mode: Mode, loaded: bool, protected: bool) -> bool
     }
 }
 
+// Late blocks are at most two, and none outside Writing.
+fn late_fits(mode: Mode, late: u8) -> bool
+    ensures { λ r. ⌜ r ≡ lateFits mode late ⌝ }
+{
+    match mode {
+        Mode::Idle => late == 0,
+        Mode::Writing => late <= LATE_BLOCKS,
+        Mode::Reading => late == 0,
+    }
+}
+
 // A head above the longest tape is impossible.
 fn possible_drive(drive: Drive) -> bool
     ensures { λ r. ⌜ r ≡ possibleDrive drive ⌝ }
 {
     let mode = drive.mode;
     if drive.head <= LONGEST {
-        return mode_fits(mode, drive.loaded, drive.protected);
+        let slot = mode_fits(mode, drive.loaded, drive.protected);
+        return slot & late_fits(mode, drive.late);
     }
     false
 }

@@ -50,7 +50,7 @@ use Rattle.rules.proofs.unit.Core as K
 use Rattle.rules.proofs.unit.Core.Laws as K′
 use Rattle.count.proofs.Values.{core-val, core-vals, core-tells, CoreStands, core-makes, core-fits}
 use Rattle.count.proofs.Promised.{OfCore, OnLoan, movedAt, handed, left, Hands, Leaves}
-use Rattle.count.proofs.Within.{Within, Means, Finds, drive-within}
+use Rattle.count.proofs.Within.{Within, Means, Finds, before, drive-within}
 
 -- A local that has the core, and one that has the reference.
 abbrev coreL : Local
@@ -188,7 +188,7 @@ module _ {M : Type 1} (𝓤 : URA M) (H : Heap 𝓤) (A : Atoms 𝓤) (W : Given
 
         -- So it is with the field that a number finds.
         lent : {X : Type 0} (n : ℕ) → (X → Means n i) → X → Sq W Before (runs C Λ E (lends n) Then)
-        lent n found x = lent-at n (24 * n) (drive-within n i (found x))
+        lent n found x = lent-at n (before n) (drive-within n i (found x))
 
         chosen : Sq W Before (runs C Λ E (seq (choice a b c j k l m) (after r)) (atRet E Post))
         chosen =

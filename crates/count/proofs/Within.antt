@@ -82,8 +82,12 @@ module _ (k d : ℕ) where
 abbrev pub NoneOf : ℕ → ℕ → ℕ → ℕ → Type 0
 NoneOf a b c i = ((Unit {0} × (i ≡ a → ⊥)) × (i ≡ b → ⊥)) × (i ≡ c → ⊥)
 
--- The drives are fields 1 to 4, 24 bytes each, after as many of the port. Field k is the drive that the number i means; one that is none of 0, 1
--- and 2 means the last.
+-- The bytes before field k: the drives are fields 1 to 4, 32 bytes each, after 24 of the port.
+abbrev pub before : ℕ → ℕ
+before zero = 0
+before (suc k) = 24 + 32 * k
+
+-- Field k is the drive that the number i means; one that is none of 0, 1 and 2 means the last.
 abbrev pub Means : ℕ → ℕ → Type 0
 Means zero i = ⊥
 Means (suc zero) i = i ≡ 0
@@ -109,13 +113,13 @@ lies-so d b o = sym (own-same T.the-type d b o)
 is-so : {n i k d : ℕ} → i ≡ n → Within n k d → Within i k d
 is-so {k = k} {d = d} e = subst (λ (n : ℕ). Within n k d) (sym e)
 
-pub drive-within : (k i : ℕ) → Means k i → Within i k (24 * k)
+pub drive-within : (k i : ℕ) → Means k i → Within i k (before k)
 unfolding oneOf putAt putLast pick
 drive-within zero i never = absurd never
 drive-within (suc zero) i e = is-so e (within 1 24 (λ x. x) (λ x. x) (own-same T.the-type) lies-so refl refl refl 0 (λ f c. refl))
-drive-within (suc (suc zero)) i e = is-so e (within 2 48 (λ x. x) (λ x. x) (own-same T.the-type) lies-so refl refl refl 1 (λ f c. refl))
-drive-within (suc (suc (suc zero))) i e = is-so e (within 3 72 (λ x. x) (λ x. x) (own-same T.the-type) lies-so refl refl refl 2 (λ f c. refl))
+drive-within (suc (suc zero)) i e = is-so e (within 2 56 (λ x. x) (λ x. x) (own-same T.the-type) lies-so refl refl refl 1 (λ f c. refl))
+drive-within (suc (suc (suc zero))) i e = is-so e (within 3 88 (λ x. x) (λ x. x) (own-same T.the-type) lies-so refl refl refl 2 (λ f c. refl))
 drive-within (suc (suc (suc (suc zero)))) i n =
-    within 4 96 (λ x. x) (λ x. x) (own-same T.the-type) lies-so refl refl refl i
+    within 4 120 (λ x. x) (λ x. x) (own-same T.the-type) lies-so refl refl refl i
     (λ f c. rw (ne-eqb i 0 (n .0 .0 .1), ne-eqb i 1 (n .0 .1), ne-eqb i 2 (n .1), le-leb 3 i (omega (arith, n .0 .0 .1, n .0 .1, n .1))))
 drive-within (suc (suc (suc (suc (suc k))))) i never = absurd never

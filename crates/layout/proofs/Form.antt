@@ -116,14 +116,13 @@ drive-form d size small so =
     let c6 = both _ _ (c5 .1) in
     let u0 = both _ _ (s4 .1) in
     let u1 = both _ _ (u0 .1) in
-    let u2 = both _ _ (u1 .1) in
     let number = ap four (unused-form _ (u0 .0)) ∙ room in
-    let mode = then (mode-form (byteAt d 19) (s2 .0)) (then (unused-form _ (u2 .0)) (then (flag-form (byteAt d 21) (s3 .0)) ends)) in
+    let mode = then (mode-form (byteAt d 19) (s2 .0)) (then refl (then (flag-form (byteAt d 21) (s3 .0)) ends)) in
     let state = then (flag-form (byteAt d 16) (s0 .0)) (then (flag-form (byteAt d 17) (s1 .0)) (then (unused-form _ (u1 .0)) mode)) in
     let octet1 = then (flag-form (byteAt d 27) (c5 .0)) (then (flag-form (byteAt d 28) (c6 .0)) (then (flag-form (byteAt d 29) (c6 .1)) ends)) in
     let octet0 = then (flag-form (byteAt d 24) (c2 .0)) (then (flag-form (byteAt d 25) (c3 .0)) (then (flag-form (byteAt d 26) (c4 .0)) octet1)) in
     let bits = then (flag-form (byteAt d 22) (c0 .0)) (then (flag-form (byteAt d 23) (c1 .0)) octet0) in
-    let last = ap two (unused-form _ (u2 .1)) ∙ spare in
+    let last = ap two (unused-form _ (u1 .1)) ∙ spare in
     joined head (joined number (joined errors (joined underruns (joined state (joined bits last))))) ∙ whole driveSize d size
 
 port-form : (p : List ℕ) → length p ≡ portSize → Small portSize p → isPort p ≡ true → portBytes (portOf p) ≡ p

@@ -46,7 +46,7 @@ pub drive-listed : (d : Drive) (h e u l : List ℕ) (a b m x : ℕ)
     → h ≡ eight (d .head) → e ≡ two (d .errors .0) → u ≡ two (d .underruns .0) → l ≡ latchedBytes (d .latched)
     → a ≡ flag (d .loaded) → b ≡ flag (d .protected) → m ≡ modeByte (d .mode) → x ≡ flag (d .exception)
     → each 8 0 h
-    ++ (four unused ++ (each 2 0 e ++ (each 2 0 u ++ ((a ∷ b ∷ unused ∷ m ∷ unused ∷ x ∷ []) ++ (each 8 0 l ++ two unused)))))
+    ++ (four unused ++ (each 2 0 e ++ (each 2 0 u ++ ((a ∷ b ∷ unused ∷ m ∷ d .late ∷ x ∷ []) ++ (each 8 0 l ++ two unused)))))
     ≡ driveBytes d
 unfolding driveBytes
 drive-listed d h e u l a b m x p0 p1 p2 p3 p4 p5 p6 p7 = rw (p0, p1, p2, p3, p4, p5, p6, p7) refl

@@ -47,7 +47,7 @@ isLatched l =
 abbrev pub leavesRoom : List ℕ → Bool
 leavesRoom l =
     isUnused (fourAt l 8)
-    && (isUnused (byteAt l 18) && (isUnused (byteAt l 20) && isUnused (twoAt l 30)))
+    && (isUnused (byteAt l 18) && isUnused (twoAt l 30))
 
 unfoldable pub isDrive : List ℕ → Bool
 isDrive l =
@@ -97,6 +97,7 @@ driveOf l =
       loaded = flagOf (byteAt l 16);
       protected = flagOf (byteAt l 17);
       mode = modeOf (byteAt l 19);
+      late = byteAt l 20;
       exception = flagOf (byteAt l 21);
       latched = latchedOf l;
     }

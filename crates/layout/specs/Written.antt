@@ -47,9 +47,9 @@ modeByte Reading = 2
 abbrev pub latchedBytes : Latched → List ℕ
 latchedBytes l = flag (l .cni) ∷ flag (l .eom) ∷ flag (l .ude) ∷ flag (l .bnl) ∷ flag (l .fil) ∷ flag (l .ill) ∷ flag (l .ndt) ∷ flag (l .por) ∷ []
 
--- Cartridge and plug, mode and EXCEPTION, with room behind the plug and behind the mode.
+-- Cartridge and plug with room behind them, mode and late blocks, EXCEPTION.
 abbrev pub stateBytes : Drive → List ℕ
-stateBytes d = flag (d .loaded) ∷ flag (d .protected) ∷ unused ∷ modeByte (d .mode) ∷ unused ∷ flag (d .exception) ∷ []
+stateBytes d = flag (d .loaded) ∷ flag (d .protected) ∷ unused ∷ modeByte (d .mode) ∷ d .late ∷ flag (d .exception) ∷ []
 
 -- A drive: head, room for a number, errors, underruns, state, latched bits, two bytes to spare.
 unfoldable pub driveBytes : Drive → List ℕ

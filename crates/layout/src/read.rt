@@ -72,8 +72,7 @@ fn is_latched(p: &[u8; DRIVE]) -> bool
 fn leaves_room(p: &[u8; DRIVE]) -> bool
     ensures { λ r. ⌜ r ≡ leavesRoom (now (p .entry)) ⌝ }
 {
-    (of_four(p[8], p[9], p[10], p[11]) == 0)
-        & ((p[18] == 0) & ((p[20] == 0) & (of_two(p[30], p[31]) == 0)))
+    (of_four(p[8], p[9], p[10], p[11]) == 0) & ((p[18] == 0) & (of_two(p[30], p[31]) == 0))
 }
 
 fn is_drive(p: &[u8; DRIVE]) -> bool
@@ -129,6 +128,7 @@ fn drive_of(p: &[u8; DRIVE]) -> Drive
         loaded: p[16] == 1,
         protected: p[17] == 1,
         mode,
+        late: p[20],
         exception: p[21] == 1,
         latched,
     }

@@ -88,7 +88,7 @@ fn drive_bytes(drive: Drive) -> [u8; DRIVE]
         flag(drive.protected),
         UNUSED,
         mode_byte(mode),
-        UNUSED,
+        drive.late,
         flag(drive.exception),
         l[0],
         l[1],

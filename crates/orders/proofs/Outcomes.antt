@@ -8,4 +8,7 @@ one-outcome =
       order-of = λ c r r′ p q. same p q;
       needs-of = λ o r r′ p q. same p q;
       fault-of = λ o d l n r r′ p q. same p q;
+      spare-of = λ late r r′ p q. same p q;
+      allowed-at = λ h l r r′ p q. same p q;
+      goes-on = λ late h l r r′ p q. same p q;
     }

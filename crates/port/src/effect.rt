@@ -6,7 +6,7 @@ ghost use Prim.Native.Nat.{ℕ, _+_};
 ghost use lib.Dec.{leb};
 ghost use lib.ListN.{length};
 ghost use Rattle.basis.specs.Choice.{pick};
-ghost use Rattle.rules.specs.declared.order.Order.the-variants.{Erase, WriteMark, Read, ReadMark, ReadStatus};
+ghost use Rattle.rules.specs.declared.order.Order.the-variants.{Erase, Write, WriteMark, Read, ReadMark, ReadStatus};
 ghost use Rattle.rules.specs.declared.order.Fault.the-variants.{Fine, Full};
 ghost use Rattle.rules.specs.Order.{orderOf, needsOf, markRoom, hasRoom};
 ghost use Rattle.rules.specs.Effect.{seat, acted, ordered, faultOf, commanded};
@@ -14,6 +14,7 @@ use crate::edge::check;
 use crate::edge::stand_where;
 use crate::moved::leaves;
 use crate::moved::rests;
+use orders::allowed_at;
 use orders::fault_of;
 use orders::needs_of;
 use orders::order_of;
@@ -35,6 +36,14 @@ fn erase(port: Port, drive: Drive, tape: &mut [u8]) -> Moved
 {
     tape::erase(tape);
     rests(false, port, drive.rewind())
+}
+
+// Writing, and past early warning two late blocks.
+fn write(port: Port, drive: Drive, tape: &[u8]) -> Moved
+    ensures { λ r. ⌜ acted r (now (tape .entry)) ≡ ordered (seat port drive (now (tape .entry))) Write ⌝ }
+{
+    let late = allowed_at(drive.head, tape.len());
+    rests(false, port, drive.in_mode(Mode::Writing).allow(late))
 }
 
 // A mark recorded, mode Idle; without room for it EOM, as test 7 has it.
@@ -84,7 +93,7 @@ fn carry_out(port: Port, drive: Drive, tape: &mut [u8], order: Order) -> Moved
         Order::Bot => rests(false, port, drive.rewind()),
         Order::Erase => erase(port, drive, tape),
         Order::Initialize => rests(false, port, drive.rewind()),
-        Order::Write => rests(false, port, drive.in_mode(Mode::Writing)),
+        Order::Write => write(port, drive, tape),
         Order::WriteMark => write_mark(port, drive, tape),
         Order::Read => read(port, drive, tape),
         Order::ReadMark => read_mark(port, drive, tape),

@@ -5,18 +5,17 @@ ghost use Rattle.rules.specs.Phase.{givenBefore};
 ghost use Rattle.rules.specs.Bytes.{stagedByte, afterBlock, stored, byteGiven};
 ghost use Rattle.rules.specs.Step.{staged};
 use crate::moved::leaves;
+use orders::goes_on;
+use orders::spare_of;
 use rules::Act;
 use rules::Bit;
 use rules::Drive;
-use rules::KEPT;
 use rules::LAST_PLACE;
 use rules::Moved;
 use rules::Phase;
 use rules::Port;
-use rules::WRITE_ROOM;
 use tape::BODY;
 use tape::Made;
-use tape::has_room;
 use tape::record_block;
 
 // A byte staged at place n, counted from 0; the last place is 511.
@@ -43,11 +42,11 @@ pub fn stage(staging: &mut [u8; BODY], phase: Phase, a: Act)
     }
 }
 
-// After recording, EOM if the next block has no room.
-fn after_block(port: Port, drive: Drive, tape: &[u8]) -> Moved
-    ensures { λ r. ⌜ acted r (now (tape .entry)) ≡ afterBlock port drive (now (tape .entry)) ⌝ }
+// After recording with so many late blocks still allowed: EOM, unless the WRITE goes on.
+fn after_block(port: Port, drive: Drive, tape: &[u8], late: u8) -> Moved
+    ensures { λ r. ⌜ acted r (now (tape .entry)) ≡ afterBlock late port drive (now (tape .entry)) ⌝ }
 {
-    if has_room(drive.head, WRITE_ROOM, tape.len()) {
+    if goes_on(late, drive.head, tape.len()) {
         leaves(false, port, drive)
     } else {
         leaves(true, port, drive.stop(Bit::Eom))
@@ -58,9 +57,10 @@ fn after_block(port: Port, drive: Drive, tape: &[u8]) -> Moved
 fn store(port: Port, staging: &[u8; BODY], drive: Drive, tape: &mut [u8]) -> Moved
     ensures { λ r. ⌜ acted r (now (tape .exit)) ≡ stored (now (staging .entry)) port drive (now (tape .entry)) ⌝ }
 {
-    let made = record_block(tape, drive.head, staging, KEPT);
+    let late = drive.late;
+    let made = record_block(tape, drive.head, staging, spare_of(late));
     match made {
-        Made::Next(next) => after_block(port, drive.made(next), tape),
+        Made::Next(next) => after_block(port, drive.made(next).one_less(), tape, late),
         Made::NoRoom => leaves(true, port, drive.stop(Bit::Eom)),
     }
 }

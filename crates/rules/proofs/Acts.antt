@@ -1,7 +1,7 @@
 -- All that an act of the host can leave, leaf by leaf, with what is known at each: every promise about one act goes by these cases.
 use Prim.Native.Nat.{ℕ, _+_, _-_, _≤_}
-use mathlib.Core.Path.{_≡_, refl, ap, _∙_}
-use mathlib.Core.Bool.{Bool, true, false, not, false≢true}
+use mathlib.Core.Path.{_≡_, refl, sym, ap, _∙_}
+use mathlib.Core.Bool.{Bool, true, false, not, _&&_, _||_, false≢true}
 use mathlib.Core.List.{List}
 use native.Mathlib.Omega.{arith}
 use lib.Dec.{ltb, leb}
@@ -24,25 +24,30 @@ use Rattle.rules.specs.declared.event.Act.{Act}
 use Rattle.rules.specs.declared.event.Act.the-variants.{Command, Give, Take, Online, Offline}
 use Rattle.rules.specs.declared.order.Order.{Order}
 use Rattle.rules.specs.declared.order.Order.the-variants.{NoOrder, Select, Bot, Erase, Initialize, Write, WriteMark, Read, ReadMark, ReadStatus}
+use Rattle.rules.specs.declared.order.Needs.{Needs}
 use Rattle.rules.specs.declared.order.Fault.{Fault}
 use Rattle.rules.specs.declared.order.Fault.the-variants.{Fine, Illegal, Empty, Plugged, Full}
 use Rattle.rules.specs.Drive.{isWriting, isReading, writes, reads, rewound, chosen, raised, latching, stopping, inMode, made, passedTo, cleared}
+use Rattle.rules.specs.Late.{begun, oneLess, blockRoom}
 use Rattle.rules.specs.Unit.{atPhase, atDrive, atLevel, showing}
 use Rattle.rules.specs.Refusal.{possiblePhase, takes, gives, inStepAt}
-use Rattle.rules.specs.Order.{orderOf, needsOf, test5, test6, hasRoom, illegal, firstFault, faultBy}
+use Rattle.rules.specs.Order.{orderOf, needsOf, inSequence, test5, test6, hasRoom, illegal, firstFault, faultBy}
 use Rattle.rules.specs.Edge.{isBlock, halted, spoilt, checked, standing}
 use Rattle.rules.specs.Octets.{octetsOf}
 use Rattle.rules.specs.Effect.{Seat, Acted, leaves, hands, withMark, withBlock, resting, ordered, faultOf, commanded}
 use Rattle.rules.specs.Phase.{givenBefore}
-use Rattle.rules.specs.Bytes.{roomToWrite, afterBlock, stored, byteGiven, handed, octetPlace, afterOctet, octetTaken, byteTaken}
+use Rattle.rules.specs.Bytes.{afterBlock, stored, byteGiven, handed, octetPlace, afterOctet, octetTaken, byteTaken}
 use Rattle.rules.specs.Online.{leaving, dropped}
 use Rattle.rules.specs.Step.{act}
 use Rattle.basis.proofs.Choosing.{both, not-not}
+use Rattle.rules.specs.Promises.Changes.{blockAsks}
+use Rattle.rules.proofs.Rooms.{room-asked, not-last}
 use Rattle.rules.proofs.Sound.{SoundSeat}
-use Rattle.rules.proofs.Codes.{select-real, erase-code, mark-code, status-code}
+use Rattle.rules.proofs.Codes.{select-real, erase-code, write-code, mark-code, status-code}
 
 -- What an order that passed the tests has shown.
 pub record Passes (s : Seat) (o : Order) : Type 0 where
+  pub sequence : inSequence (s .drive .mode) (needsOf o) ≡ true
   pub cartridge : test5 (s .drive) (needsOf o) ≡ false
   pub plug : test6 (s .drive) (needsOf o) ≡ false
   pub room : hasRoom (needsOf o .room) (s .drive .head) (length (s .tape)) ≡ true
@@ -51,9 +56,9 @@ pub data Does (g : List ℕ) (s : Seat) : Act → Acted → Type 0 where
   -- orders that passed the tests
   nothing : (c : ℕ) → Does g s (Command c) (leaves false (resting s) (s .drive) (s .tape))
   selects : (c n : ℕ) → n ≤ 3 → orderOf c ≡ Select n → Does g s (Command c) (leaves false (atDrive n (s .port)) (chosen (s .drive)) (s .tape))
-  rewinds : (c : ℕ) → Does g s (Command c) (leaves false (resting s) (rewound (s .drive)) (s .tape))
+  rewinds : (c : ℕ) → s .drive .mode ≡ Idle → Does g s (Command c) (leaves false (resting s) (rewound (s .drive)) (s .tape))
   erases : Passes s Erase → Does g s (Command 34) (leaves false (resting s) (rewound (s .drive)) (erased (s .tape)))
-  sets-writing : (c : ℕ) → Passes s Write → Does g s (Command c) (leaves false (resting s) (inMode Writing (s .drive)) (s .tape))
+  sets-writing : Passes s Write → Does g s (Command 64) (leaves false (resting s) (begun (length (s .tape)) (s .drive)) (s .tape))
   records-mark : Passes s WriteMark
       → Does g s (Command 96) (leaves false (resting s) (inMode Idle (made (s .drive .head + 1) (s .drive))) (withMark (s .drive) (s .tape)))
   sets-reading : (c : ℕ) → Passes s Read
@@ -68,10 +73,12 @@ pub data Does (g : List ℕ) (s : Seat) : Act → Acted → Type 0 where
   -- a byte given
   stages : (b n : ℕ) → n + 1 ≤ 511 → s .drive .mode ≡ Writing
       → Does g s (Give b) (leaves false (atPhase (Taking (n + 1)) (s .port)) (s .drive) (s .tape))
-  records-block : (b : ℕ) → s .port .phase ≡ Taking 511 → s .drive .mode ≡ Writing → s .drive .head + 1541 ≤ length (s .tape)
-      → Does g s (Give b) (leaves false (resting s) (made (s .drive .head + 513) (s .drive)) (withBlock g (s .drive) (s .tape)))
-  records-last : (b : ℕ) → s .port .phase ≡ Taking 511 → s .drive .mode ≡ Writing → s .drive .head + 1541 ≤ length (s .tape)
-      → Does g s (Give b) (leaves true (resting s) (stopping Eom (made (s .drive .head + 513) (s .drive))) (withBlock g (s .drive) (s .tape)))
+  records-block : (b : ℕ) → s .port .phase ≡ Taking 511 → s .drive .mode ≡ Writing → s .drive .head + blockAsks (s .drive .late) ≤ length (s .tape)
+      → (s .drive .late ≡ 1 → ⊥)
+      → Does g s (Give b) (leaves false (resting s) (oneLess (made (s .drive .head + 513) (s .drive))) (withBlock g (s .drive) (s .tape)))
+  records-last : (b : ℕ) → s .port .phase ≡ Taking 511 → s .drive .mode ≡ Writing → s .drive .head + blockAsks (s .drive .late) ≤ length (s .tape)
+      → Does g s (Give b)
+      (leaves true (resting s) (stopping Eom (oneLess (made (s .drive .head + 513) (s .drive)))) (withBlock g (s .drive) (s .tape)))
   drops-block : (b : ℕ) → Does g s (Give b) (leaves true (resting s) (stopping Eom (s .drive)) (s .tape))
   -- a byte taken
   hands-octet : (k : ℕ) → s .port .phase ≡ Status k
@@ -102,20 +109,37 @@ unfolding pick
 by-test true f h = f refl
 by-test false f h = h refl
 
+-- what is legal is in sequence; what only Idle takes finds the drive Idle
+in-sequence : (online : Bool) (d : Drive) (n : Needs) → illegal online d n ≡ false → inSequence (d .mode) n ≡ true
+unfolding illegal
+in-sequence online d n h = third (d .exception && not (n .status)) (not (n .known)) (inSequence (d .mode) n) (n .online && not online) h
+  where
+    third : (a b c e : Bool) → (a || (b || (not c || e))) ≡ false → c ≡ true
+    third true b c e h = cc
+    third false true c e h = cc
+    third false false true e h = refl
+    third false false false e h = cc
+
+pub only-idle : (m : Mode) (n : Needs) → n .writing ≡ false → n .reading ≡ false → inSequence m n ≡ true → m ≡ Idle
+only-idle Idle n w r h = refl
+only-idle Writing n w r h = absurd (false≢true (sym w ∙ h))
+only-idle Reading n w r h = absurd (false≢true (sym r ∙ h))
+
 passes : (s : Seat) (o : Order) → faultOf s o ≡ Fine → Passes s o
 unfolding faultOf faultBy pick
 passes s o =
     go (illegal (s .port .online) (s .drive) (needsOf o)) (test5 (s .drive) (needsOf o)) (test6 (s .drive) (needsOf o))
-    (hasRoom (needsOf o .room) (s .drive .head) (length (s .tape))) refl refl refl
+    (hasRoom (needsOf o .room) (s .drive .head) (length (s .tape))) refl refl refl refl
   where
-    go : (i e p r : Bool) → test5 (s .drive) (needsOf o) ≡ e → test6 (s .drive) (needsOf o) ≡ p
-        → hasRoom (needsOf o .room) (s .drive .head) (length (s .tape)) ≡ r
+    go : (i e p r : Bool) → illegal (s .port .online) (s .drive) (needsOf o) ≡ i → test5 (s .drive) (needsOf o) ≡ e
+        → test6 (s .drive) (needsOf o) ≡ p → hasRoom (needsOf o .room) (s .drive .head) (length (s .tape)) ≡ r
         → firstFault i e p r ≡ Fine → Passes s o
-    go true e p r qe qp qr h = record { cartridge = cc; plug = cc; room = cc }
-    go false true p r qe qp qr h = record { cartridge = cc; plug = cc; room = cc }
-    go false false true r qe qp qr h = record { cartridge = cc; plug = cc; room = cc }
-    go false false false false qe qp qr h = record { cartridge = cc; plug = cc; room = cc }
-    go false false false true qe qp qr h = record { cartridge = qe; plug = qp; room = qr }
+    go true e p r qi qe qp qr h = record { sequence = cc; cartridge = cc; plug = cc; room = cc }
+    go false true p r qi qe qp qr h = record { sequence = cc; cartridge = cc; plug = cc; room = cc }
+    go false false true r qi qe qp qr h = record { sequence = cc; cartridge = cc; plug = cc; room = cc }
+    go false false false false qi qe qp qr h = record { sequence = cc; cartridge = cc; plug = cc; room = cc }
+    go false false false true qi qe qp qr h =
+        record { sequence = in-sequence (s .port .online) (s .drive) (needsOf o) qi; cartridge = qe; plug = qp; room = qr }
 
 pub writing-is : (m : Mode) → isWriting m ≡ true → m ≡ Writing
 writing-is Idle h = cc
@@ -136,7 +160,7 @@ unraised-block : (t : List ℕ) (d : Drive) → checked t d .raised ≡ false �
 unfolding checked
 unraised-block t d e = block-is (foundAt t (d .head)) (not-not (isBlock (foundAt t (d .head))) e)
 
-taking-writing : (ph : Phase) (d : Drive) → takes ph (writes d) ≡ true → d .mode ≡ Writing
+pub taking-writing : (ph : Phase) (d : Drive) → takes ph (writes d) ≡ true → d .mode ≡ Writing
 taking-writing Rest d h = writing-is (d .mode) (both (isWriting (d .mode)) (not (d .exception)) h .0)
 taking-writing (Taking n) d h = writing-is (d .mode) (both (isWriting (d .mode)) (not (d .exception)) h .0)
 taking-writing (Giving n) d h = cc
@@ -155,10 +179,10 @@ module _ (g : List ℕ) (s : Seat) (ok : SoundSeat s) where
   ordered-does : (c : ℕ) (o : Order) → orderOf c ≡ o → Passes s o → Does g s (Command c) (ordered s o)
   ordered-does c NoOrder e p = nothing c
   ordered-does c (Select n) e p = selects c n (select-real c n e) e
-  ordered-does c Bot e p = rewinds c
+  ordered-does c Bot e p = rewinds c (only-idle (s .drive .mode) (needsOf Bot) refl refl (p .sequence))
   ordered-does c Erase e p = rw (erase-code c e) (erases p)
-  ordered-does c Initialize e p = rewinds c
-  ordered-does c Write e p = sets-writing c p
+  ordered-does c Initialize e p = rewinds c (only-idle (s .drive .mode) (needsOf Initialize) refl refl (p .sequence))
+  ordered-does c Write e p = rw (write-code c e) (sets-writing p)
   ordered-does c WriteMark e p = rw (mark-code c e) (records-mark p)
   ordered-does c Read e p = sets-reading c p
   ordered-does c ReadMark e p = searches c
@@ -175,8 +199,10 @@ module _ (g : List ℕ) (s : Seat) (ok : SoundSeat s) where
   unfolding stored afterBlock
   given-does b n full w =
       by-test (ltb n 511) (λ h. stages b n (omega (arith, ltb-true n 511 h)) w)
-      (λ h. by-test (roomToWrite (s .drive) (s .tape))
-      (λ r. let q = full (ltb-false n 511 h) in by-test _ (λ _. records-block b q w (leb-true _ _ r)) (λ _. records-last b q w (leb-true _ _ r)))
+      (λ h. by-test (blockRoom (s .drive .late) (s .drive .head) (length (s .tape)))
+      (λ r. let q = full (ltb-false n 511 h) in
+      let a = room-asked (s .drive .late) (s .drive .head) (length (s .tape)) r in
+      by-test _ (λ k. records-block b q w a (not-last (s .drive .late) _ _ k)) (λ _. records-last b q w a))
       (λ _. drops-block b))
 
   handed-does : (n : ℕ) → n ≤ 511 → (n ≡ 511 → s .port .phase ≡ Giving 511) → s .drive .mode ≡ Reading

@@ -24,13 +24,14 @@ use Rattle.rules.specs.declared.order.Fault.{Fault}
 use Rattle.rules.specs.declared.order.Fault.the-variants.{Fine, Illegal, Empty, Plugged, Full}
 use Rattle.rules.specs.declared.order.Checked.{Checked}
 use Rattle.rules.specs.Drive.{reads}
+use Rattle.rules.specs.Late.{blockRoom}
 use Rattle.rules.specs.Unit.{atPhase}
 use Rattle.rules.specs.Refusal.{gives, inStepAt}
 use Rattle.rules.specs.Order.{orderOf}
 use Rattle.rules.specs.Edge.{isBlock, checked}
 use Rattle.rules.specs.Effect.{Seat, seat, Acted, leaves, hands, resting, ordered, faultOf, commanded}
 use Rattle.rules.specs.Phase.{givenBefore}
-use Rattle.rules.specs.Bytes.{placeOf, stagedByte, roomToWrite, afterBlock, stored, byteGiven, handed, firstTaken, nextTaken, octetPlace, octetTaken, byteTaken}
+use Rattle.rules.specs.Bytes.{placeOf, stagedByte, afterBlock, stored, byteGiven, handed, firstTaken, nextTaken, octetPlace, octetTaken, byteTaken}
 use Rattle.rules.specs.Online.{leaving, dropped}
 use Rattle.rules.specs.Step.{act, staged}
 use Rattle.rules.specs.Promises.Demand3.{octetsIn}
@@ -126,7 +127,7 @@ module _ (s : Seat) (g g′ : List ℕ) where
   unfolding stored afterBlock
   stored-agree e =
       rw e
-      (agree-pick (roomToWrite (s .drive) (s .tape))
+      (agree-pick (blockRoom (s .drive .late) (s .drive .head) (length (s .tape)))
       (agree-pick _ (same refl refl refl refl refl refl refl) (same refl refl refl refl refl refl refl))
       (same refl refl refl refl refl refl refl))
 

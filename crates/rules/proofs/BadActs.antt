@@ -118,7 +118,7 @@ take-tells g s m (Acts.finds-no-block n q b) = inside-tells s n q _ refl b
 
 give-tells : (g : List ℕ) (s : Seat) (b : ℕ) (m : Acted) → Acts.Does g s (Give b) m → Tells s (Give b) m
 give-tells g s b m (Acts.stages x n l w) = as-was s _ _ refl refl
-give-tells g s b m (Acts.records-block x q w r) = as-was s _ _ refl refl
+give-tells g s b m (Acts.records-block x q w r n) = as-was s _ _ refl refl
 give-tells g s b m (Acts.records-last x q w r) = as-was s _ _ refl refl
 give-tells g s b m (Acts.drops-block x) = as-was s _ _ refl refl
 

@@ -19,7 +19,8 @@ use Rattle.rules.specs.declared.unit.Port.{Port}
 use Rattle.rules.specs.declared.phase.Phase.{Phase}
 use Rattle.rules.specs.declared.phase.Phase.the-variants.{Rest}
 use Rattle.rules.specs.declared.answer.Turn.{Turn}
-use Rattle.rules.specs.Drive.{made}
+use Rattle.rules.specs.Drive.{isWriting, made}
+use Rattle.rules.specs.Late.{goesOn}
 use Rattle.rules.specs.Unit.{tapeAt, atPhase}
 use Rattle.rules.specs.Effect.{Seat, seat, leaves}
 use Rattle.rules.specs.Bytes.{afterBlock, stored}
@@ -31,6 +32,7 @@ use Rattle.rules.proofs.Seated.{Sits, sits-here}
 use Rattle.rules.proofs.Giving.{stored-here, block-given}
 use Rattle.rules.proofs.Handing.{block-handed}
 use Rattle.rules.proofs.Ways.{Fit}
+use Rattle.rules.proofs.Rooms.{none-less, none-outside}
 
 pub given-append : (bs cs : List ℕ) → givenEach (bs ++ cs) ≡ givenEach bs ++ givenEach cs
 given-append [] cs = refl
@@ -73,15 +75,26 @@ here-at-rest w k e = rest-seat (w .core .port) (driveOf w) (tapeOf w) e (sits-he
 pub ready-fit : (w : World) → Ready w → Fit (w .core .port) (driveOf w) Idle
 ready-fit w r = record { online = r .online; loaded = r .loaded; calm = r .calm; mode = r .idle }
 
+-- a drive that is ready allows no late block
+pub ready-none : (w : World) → Ready w → driveOf w .late ≡ 0
+ready-none w r =
+    none-outside (driveOf w .mode) (driveOf w .late) (ap isWriting (r .idle)) (sits-here w (r .works) .sound .fit (w .core .port .selected) .late)
+
 -- ---- a block
 
 -- with room, and room left behind it
-pub stored-on : (b : List ℕ) (p : Port) (d : Drive) (t : List ℕ) → length b ≡ 512 → d .head + 513 + 1541 ≤ length t
+pub stored-on : (b : List ℕ) (p : Port) (d : Drive) (t : List ℕ) → length b ≡ 512 → d .late ≡ 0 → d .head + 513 + 1541 ≤ length t
     → stored b p d t ≡ leaves false p (made (d .head + 513) d) (recorded t (d .head) (blockRecord b))
-unfolding stored afterBlock pick
-stored-on b p d t e r =
+unfolding stored afterBlock goesOn pick
+stored-on b p d t e n r =
     let fits : d .head + length (blockRecord b) ≤ length t = omega (arith, e, r) in
-    rw (le-leb (d .head + 1541) (length t) (omega (arith, r)), recorded-length t (blockRecord b) (d .head) fits, le-leb (d .head + 513 + 1541) (length t) r)
+    rw (
+      none-less (made (d .head + 513) d) n,
+      n,
+      le-leb (d .head + 1541) (length t) (omega (arith, r)),
+      recorded-length t (blockRecord b) (d .head) fits,
+      le-leb (d .head + 513 + 1541) (length t) r,
+    )
 
 -- the tape of the drive that is still selected
 seat-tape : {w : World} {g : List ℕ} {s : Seat} (n : ℕ) → Sits w g s → s .port .selected ≡ n → tapeAt (w .lent) n ≡ s .tape

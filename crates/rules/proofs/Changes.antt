@@ -32,17 +32,19 @@ use Rattle.rules.specs.Event.{eventOf}
 use Rattle.rules.specs.Answer.{rowOf}
 use Rattle.rules.specs.Refusal.{refusalIn}
 use Rattle.rules.specs.Effect.{Seat, Acted, leaves, withMark, withBlock, faultOf, commanded}
-use Rattle.rules.specs.Bytes.{stagedByte, roomToWrite, afterBlock, stored}
+use Rattle.rules.specs.Bytes.{stagedByte, afterBlock, stored}
+use Rattle.rules.specs.Late.{goesOn}
 use Rattle.rules.specs.Online.{leftAlone, leaving, dropped}
 use Rattle.rules.specs.Step.{Stepped, act, stagedIn, seatOf, effectOf}
 use Rattle.rules.specs.Promises.Table.{answerTo}
-use Rattle.rules.specs.Promises.Changes.{Accepted, blockThere, Change, unchanged, erasedWhole, markMade, markLeft, blockMade, OneChange, Happens, RecordingHappens, OnlyAcceptedOrders, RecordingCutsOff, BeforeTheHead}
+use Rattle.rules.specs.Promises.Changes.{Accepted, blockAsks, blockThere, Change, unchanged, erasedWhole, markMade, markLeft, blockMade, OneChange, Happens, RecordingHappens, OnlyAcceptedOrders, RecordingCutsOff, BeforeTheHead}
 use Rattle.basis.proofs.Choosing.{picked, passed, choice-holds, both}
 use Rattle.rules.proofs.Places.{put-same, tape-back}
 use Rattle.rules.proofs.Sound.{Sound}
 use Rattle.rules.proofs.Codes.{orders}
 use Rattle.rules.proofs.Acts.{writing-is}
 use Rattle.rules.proofs.Good.{has-cartridge}
+use Rattle.rules.proofs.Rooms.{asked-room, room-behind}
 use Rattle.rules.proofs.Leaves
 use Rattle.rules.proofs.StepBy.{step-sound, sound-step, own-does}
 use Rattle.rules.proofs.Refused.{taken-not-refused, isOwn, not-own, quiet-is, own-is}
@@ -53,7 +55,7 @@ unfolding stagedByte pick
 last-staged c l a b e p = rw (e, p)
 
 -- an act that is taken is answered 0 where it raised nothing, and never refused
-quiet-answer : (b : Bool) → b ≡ false → pick b Raised Taken ≡ Taken
+pub quiet-answer : (b : Bool) → b ≡ false → pick b Raised Taken ≡ Taken
 unfolding pick
 quiet-answer b e = rw e
 
@@ -123,13 +125,14 @@ left-there s = go (leb (s .drive .head + 1) (length (s .tape)))
     go false h = absurd (true≢false h)
 
 -- a block that has room is recorded, whether or not EOM follows
-pub stored-there : (g : List ℕ) (p : Port) (d : Drive) (t : List ℕ) → d .head + 1541 ≤ length t → stored g p d t .tape ≡ withBlock g d t
+pub stored-there : (g : List ℕ) (p : Port) (d : Drive) (t : List ℕ) → d .head + blockAsks (d .late) ≤ length t
+    → stored g p d t .tape ≡ withBlock g d t
 unfolding stored afterBlock pick
 stored-there g p d t r =
-    rw (le-leb (d .head + 1541) (length t) r)
-    (choice-holds (λ (m : Acted). m .tape ≡ withBlock g d t) (roomToWrite (made (d .head + 513) d) (withBlock g d t)) refl refl)
+    rw (asked-room (d .late) (d .head) (length t) r)
+    (choice-holds (λ (m : Acted). m .tape ≡ withBlock g d t) (goesOn (d .late) (d .head + 513) (length (withBlock g d t))) refl refl)
 
-last-there : (g : List ℕ) (s : Seat) (b : ℕ) → s .port .phase ≡ Taking 511 → s .drive .head + 1541 ≤ length (s .tape)
+last-there : (g : List ℕ) (s : Seat) (b : ℕ) → s .port .phase ≡ Taking 511 → s .drive .head + blockAsks (s .drive .late) ≤ length (s .tape)
     → act g s (Give b) .tape ≡ withBlock g (s .drive) (s .tape)
 unfolding pick
 last-there g s b p r = rw p (stored-there g _ (s .drive) (s .tape) r)
@@ -249,8 +252,9 @@ before-change c l event t w (markLeft q r) n = recorded-before (tapeAt l (c .por
 before-change c l event t w (blockMade b q) n =
     let body = set (l .staging) 511 b in
     let tape = tapeAt l (c .port .selected) in
-    recorded-before tape (blockRecord body) (driveAt c (c .port .selected) .head)
-    (block-room tape body (driveAt c (c .port .selected) .head) (length-set (l .staging) 511 b ∙ w) (omega (arith, q .room)))
+    let d = driveAt c (c .port .selected) in
+    recorded-before tape (blockRecord body) (d .head)
+    (block-room tape body (d .head) (length-set (l .staging) 511 b ∙ w) (omega (arith, room-behind (d .late) (d .head) (length tape) (q .room))))
 
 pub before-the-head : BeforeTheHead
 before-the-head c l event w n = before-change c l event _ w (one-change c l event w) n

@@ -112,6 +112,9 @@ select-real c n e = leb-true n 3 (code-fits c (Select n) e)
 pub erase-code : (c : ℕ) → orderOf c ≡ Erase → c ≡ 34
 erase-code c e = eqb-true c 34 (code-fits c Erase e)
 
+pub write-code : (c : ℕ) → orderOf c ≡ Write → c ≡ 64
+write-code c e = eqb-true c 64 (code-fits c Write e)
+
 pub mark-code : (c : ℕ) → orderOf c ≡ WriteMark → c ≡ 96
 mark-code c e = eqb-true c 96 (code-fits c WriteMark e)
 

@@ -17,13 +17,14 @@ use Rattle.rules.specs.declared.phase.Phase.{Phase}
 use Rattle.rules.specs.declared.phase.Phase.the-variants.{Rest, Taking}
 use Rattle.rules.specs.declared.event.Act.the-variants.{Give}
 use Rattle.rules.specs.declared.event.Event.the-variants.{Own}
-use Rattle.rules.specs.Drive.{writes, made}
+use Rattle.rules.specs.Drive.{writes}
+use Rattle.rules.specs.Late.{blockRoom, goesOn}
 use Rattle.rules.specs.Unit.{atPhase}
 use Rattle.rules.specs.Event.{bodiedEvent, eventOf}
 use Rattle.rules.specs.Refusal.{inStepAt}
 use Rattle.rules.specs.Phase.{givenBefore}
 use Rattle.rules.specs.Effect.{Seat, seat, Acted, leaves, withBlock, resting}
-use Rattle.rules.specs.Bytes.{stagedByte, roomToWrite, afterBlock, stored, byteGiven}
+use Rattle.rules.specs.Bytes.{stagedByte, afterBlock, stored, byteGiven}
 use Rattle.rules.specs.Run.{World, after, run, turns, givenEach}
 use Rattle.rules.specs.Promises.Strike.{AllTaken}
 use Rattle.rules.proofs.Seated.{Sits, left, Moves, sits-step}
@@ -50,7 +51,8 @@ pub stored-here : (g : List ℕ) (p : Port) (d : Drive) (t : List ℕ) → store
 unfolding stored afterBlock
 stored-here g p d t =
     let P : Acted → Type 0 = λ m. m .moved .port .selected ≡ p .selected in
-    choice-holds P (roomToWrite d t) (choice-holds P (roomToWrite (made (d .head + 513) d) (withBlock g d t)) refl refl) refl
+    choice-holds P (blockRoom (d .late) (d .head) (length t))
+    (choice-holds P (goesOn (d .late) (d .head + 513) (length (withBlock g d t))) refl refl) refl
 
 given-here : (g : List ℕ) (s : Seat) (n : ℕ) → byteGiven g s n .moved .port .selected ≡ s .port .selected
 given-here g s n =

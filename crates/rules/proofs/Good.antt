@@ -29,6 +29,7 @@ use Rattle.rules.specs.declared.phase.Phase.the-variants.{Rest, Taking, 
 use Rattle.rules.specs.declared.unit.Port.{Port}
 use Rattle.rules.specs.declared.event.Act.{Act}
 use Rattle.rules.specs.Drive.{stopping, inMode, made, passedTo, setHead}
+use Rattle.rules.specs.Late.{oneLess}
 use Rattle.rules.specs.Unit.{atPhase}
 use Rattle.rules.specs.Refusal.{modeFits, possiblePhase}
 use Rattle.rules.specs.Edge.{halted, spoilt, edged, checked, standing}
@@ -36,6 +37,8 @@ use Rattle.rules.specs.Effect.{Seat, Acted, leaves}
 use Rattle.rules.specs.Bytes.{afterOctet}
 use Rattle.basis.proofs.Choosing.{both, join, not-not}
 use Rattle.rules.proofs.Sound.{Fit, SoundSeat, idle-fits}
+use Rattle.rules.specs.Promises.Changes.{blockAsks}
+use Rattle.rules.proofs.Rooms.{room-behind, allowed-fits, less-fits}
 use Rattle.rules.proofs.Acts
 
 -- Where the port ends: the same drive selected in a phase that goes with its mode, or one of four at Rest.
@@ -53,18 +56,18 @@ pub record Good (s : Seat) (m : Acted) : Type 0 where
 -- ---- a drive's record stays possible
 
 fit-head : (d : Drive) (h : ℕ) → Fit d → h ≤ longest → Fit (setHead h d)
-fit-head d h f l = record { near = l; mode = f .mode }
+fit-head d h f l = record { near = l; mode = f .mode; late = f .late }
 
 fit-idle : (d : Drive) → Fit d → Fit (inMode Idle d)
-fit-idle d f = record { near = f .near; mode = idle-fits (d .mode) (d .loaded) (d .protected) (f .mode) }
+fit-idle d f = record { near = f .near; mode = idle-fits (d .mode) (d .loaded) (d .protected) (f .mode); late = refl }
 
 fit-stop : (b : Bit) (d : Drive) → Fit d → Fit (stopping b d)
-fit-stop b d f = record { near = f .near; mode = idle-fits (d .mode) (d .loaded) (d .protected) (f .mode) }
+fit-stop b d f = record { near = f .near; mode = idle-fits (d .mode) (d .loaded) (d .protected) (f .mode); late = refl }
 
 halted-fit : (w : Why) (d : Drive) → Fit d → Fit (halted w d)
-halted-fit End d f = let i = fit-idle d f in record { near = i .near; mode = i .mode }
-halted-fit Unknown d f = let i = fit-idle d f in record { near = i .near; mode = i .mode }
-halted-fit Bad d f = let i = fit-idle d f in record { near = i .near; mode = i .mode }
+halted-fit End d f = let i = fit-idle d f in record { near = i .near; mode = i .mode; late = i .late }
+halted-fit Unknown d f = let i = fit-idle d f in record { near = i .near; mode = i .mode; late = i .late }
+halted-fit Bad d f = let i = fit-idle d f in record { near = i .near; mode = i .mode; late = i .late }
 
 edged-fit : (t : List ℕ) (d : Drive) → length t ≤ longest → Fit d → (e : Found) → foundAt t (d .head) ≡ e → Fit (edged e d)
 edged-fit t d l f Block q = f
@@ -142,13 +145,13 @@ module _ (g : List ℕ) (w512 : length g ≡ 512) (s : Seat) (ok : SoundSeat s) 
         slot = λ q. absurd (true≢false (sym i ∙ q));
       }
 
-  block-good : (m : Acted) → s .drive .mode ≡ Writing → s .drive .head + 1541 ≤ length (s .tape)
+  block-good : (m : Acted) → s .drive .mode ≡ Writing → s .drive .head + blockAsks (s .drive .late) ≤ length (s .tape)
       → m .tape ≡ recorded (s .tape) (s .drive .head) (blockRecord g)
       → m .moved .port .phase ≡ Rest → m .moved .port .selected ≡ s .port .selected → Fit (m .moved .drive) → Good s m
   block-good m w r t p n f =
       record {
         fit = f;
-        long = ap length t ∙ recorded-length (s .tape) (blockRecord g) (s .drive .head) (rw w512 (omega (arith, r)));
+        long = ap length t ∙ recorded-length (s .tape) (blockRecord g) (s .drive .head) (rw w512 (omega (arith, room-behind (s .drive .late) (s .drive .head) (length (s .tape)) r)));
         land = rests p (rw n (ok .sel));
         plug = λ q. absurd (open-plug (s .drive .mode) (s .drive .loaded) (s .drive .protected) (ok .fit .mode) w q);
         slot = λ q. absurd (true≢false (sym (writing-loaded w) ∙ q));
@@ -161,14 +164,19 @@ module _ (g : List ℕ) (w512 : length g ≡ 512) (s : Seat) (ok : SoundSeat s) 
       go true e = absurd (open-plug (s .drive .mode) (s .drive .loaded) (s .drive .protected) (ok .fit .mode) w e)
       go false e = refl
 
-  fit-block : s .drive .head + 1541 ≤ length (s .tape) → Fit (made (s .drive .head + 513) (s .drive))
-  fit-block r = fit-head (s .drive) (s .drive .head + 513) (ok .fit) (omega (arith, r, ok .near))
+  fit-block : s .drive .head + blockAsks (s .drive .late) ≤ length (s .tape) → Fit (oneLess (made (s .drive .head + 513) (s .drive)))
+  fit-block r =
+      record {
+        near = omega (arith, room-behind (s .drive .late) (s .drive .head) (length (s .tape)) r, ok .near);
+        mode = ok .fit .mode;
+        late = less-fits (s .drive .mode) (s .drive .late) (ok .fit .late);
+      }
 
   pub does-good : (a : Act) (m : Acted) → Acts.Does g s a m → Good s m
   does-good a m (Acts.nothing c) = quiet m refl refl refl (ok .fit)
   does-good a m (Acts.selects c n l e) =
-      record { fit = record { near = ok .fit .near; mode = ok .fit .mode }; long = refl; land = rests refl l; plug = λ _. refl; slot = λ _. refl }
-  does-good a m (Acts.rewinds c) = quiet m refl refl refl (fit-head (s .drive) 0 (ok .fit) zero-le)
+      record { fit = record { near = ok .fit .near; mode = ok .fit .mode; late = ok .fit .late }; long = refl; land = rests refl l; plug = λ _. refl; slot = λ _. refl }
+  does-good a m (Acts.rewinds c i) = quiet m refl refl refl (fit-head (s .drive) 0 (ok .fit) zero-le)
   does-good a m (Acts.erases p) =
       record {
         fit = fit-head (s .drive) 0 (ok .fit) zero-le;
@@ -177,12 +185,13 @@ module _ (g : List ℕ) (w512 : length g ≡ 512) (s : Seat) (ok : SoundSeat s) 
         plug = λ q. absurd (true≢false (sym q ∙ p .plug));
         slot = λ q. absurd (true≢false (sym (not-not (s .drive .loaded) (p .cartridge)) ∙ q));
       }
-  does-good a m (Acts.sets-writing c p) =
+  does-good a m (Acts.sets-writing p) =
       quiet m refl refl refl
       (record {
         near = ok .fit .near;
         mode = join (s .drive .loaded) (not (s .drive .protected)) (not-not (s .drive .loaded) (p .cartridge))
             (ap not (p .plug));
+        late = allowed-fits (s .drive .head) (length (s .tape));
       })
   does-good a m (Acts.records-mark p) =
       let r : s .drive .head + 1 ≤ length (s .tape) = leb-true _ _ (p .room) in
@@ -190,27 +199,27 @@ module _ (g : List ℕ) (w512 : length g ≡ 512) (s : Seat) (ok : SoundSeat s) 
       (fit-idle (made (s .drive .head + 1) (s .drive)) (fit-head (s .drive) (s .drive .head + 1) (ok .fit) (omega (arith, ok .near))))
   does-good a m (Acts.sets-reading c p) =
       quiet m refl refl refl (checked-fit (s .tape) (inMode Reading (s .drive)) (ok .near)
-      (record { near = ok .fit .near; mode = not-not (s .drive .loaded) (p .cartridge) }))
+      (record { near = ok .fit .near; mode = not-not (s .drive .loaded) (p .cartridge); late = refl }))
   does-good a m (Acts.searches c) =
       quiet m refl refl refl (standing-fit (passed (s .tape) (s .drive .head)) (s .drive) (ok .fit)
       (passed-within (s .tape) (s .drive .head) longest (ok .near) (ok .fit .near)))
   does-good a m Acts.reports =
       record {
-        fit = record { near = ok .fit .near; mode = ok .fit .mode };
+        fit = record { near = ok .fit .near; mode = ok .fit .mode; late = ok .fit .late };
         long = refl;
         land = stays refl (six-fit (s .drive .mode));
         plug = λ _. refl;
         slot = λ _. refl;
       }
-  does-good a m (Acts.faults c b) = quiet m refl refl refl (record { near = ok .fit .near; mode = ok .fit .mode })
-  does-good a m (Acts.meets-plug c) = quiet m refl refl refl (record { near = ok .fit .near; mode = ok .fit .mode })
+  does-good a m (Acts.faults c b) = quiet m refl refl refl (record { near = ok .fit .near; mode = ok .fit .mode; late = ok .fit .late })
+  does-good a m (Acts.meets-plug c) = quiet m refl refl refl (record { near = ok .fit .near; mode = ok .fit .mode; late = ok .fit .late })
   does-good a m (Acts.finds-no-room c) = quiet m refl refl refl (fit-stop Eom (s .drive) (ok .fit))
   does-good a m (Acts.drops-block b) = quiet m refl refl refl (fit-stop Eom (s .drive) (ok .fit))
   does-good a m (Acts.finds-no-block k q n) = quiet m refl refl refl (halted-fit (spoilt (foundAt (s .tape) (s .drive .head))) (s .drive) (ok .fit))
   does-good a m (Acts.stages b n l w) =
       record { fit = ok .fit; long = refl; land = stays refl (taking-fits n (s .drive .mode) l w); plug = λ _. refl; slot = λ _. refl }
-  does-good a m (Acts.records-block b q w r) = block-good m w r refl refl refl (fit-block r)
-  does-good a m (Acts.records-last b q w r) = block-good m w r refl refl refl (fit-stop Eom (made (s .drive .head + 513) (s .drive)) (fit-block r))
+  does-good a m (Acts.records-block b q w r n) = block-good m w r refl refl refl (fit-block r)
+  does-good a m (Acts.records-last b q w r) = block-good m w r refl refl refl (fit-stop Eom (oneLess (made (s .drive .head + 513) (s .drive))) (fit-block r))
   does-good a m (Acts.hands-octet k e) =
       record { fit = ok .fit; long = refl; land = octet-land k (s .port) (s .drive .mode) (ok .sel) (rw e at (ok .phase)); plug = λ _. refl; slot = λ _. refl }
   does-good a m (Acts.hands-byte n l w e) =

@@ -78,9 +78,9 @@ reset-sound c l k =
     }
   where
     one : (d : Drive) → Fit d → Fit (wasReset d)
-    one d f = record { near = zero-le; mode = idle-fits (d .mode) (d .loaded) (d .protected) (f .mode) }
+    one d f = record { near = zero-le; mode = idle-fits (d .mode) (d .loaded) (d .protected) (f .mode); late = refl }
 
-empty-idle : (m : Mode) (l p : Bool) → l ≡ false → modeFits m l p ≡ true → m ≡ Idle
+pub empty-idle : (m : Mode) (l p : Bool) → l ≡ false → modeFits m l p ≡ true → m ≡ Idle
 empty-idle Idle l p e h = refl
 empty-idle Writing true p e h = cc
 empty-idle Writing false p e h = cc
@@ -89,10 +89,10 @@ empty-idle Reading false p e h = cc
 
 befallen-fit : (d : Drive) (w : What) → slotAnswer (d .loaded) w ≡ Taken → Fit d → Fit (befallen w d)
 befallen-fit d (In p) h f =
-    record { near = zero-le; mode = rw (empty-idle (d .mode) (d .loaded) (d .protected) (slot-empty (d .loaded) h) (f .mode)) }
-befallen-fit d Out h f = record { near = zero-le; mode = refl }
-befallen-fit d Error h f = record { near = f .near; mode = f .mode }
-befallen-fit d Underrun h f = record { near = f .near; mode = f .mode }
+    record { near = zero-le; mode = rw (empty-idle (d .mode) (d .loaded) (d .protected) (slot-empty (d .loaded) h) (f .mode)); late = f .late }
+befallen-fit d Out h f = record { near = zero-le; mode = refl; late = refl }
+befallen-fit d Error h f = record { near = f .near; mode = f .mode; late = f .late }
+befallen-fit d Underrun h f = record { near = f .near; mode = f .mode; late = f .late }
 
 -- the phase still goes with the mode, where the drive named is the selected one and where it is not
 befallen-phase : (d : Drive) (w : What) (ph : Phase) → possiblePhase ph (d .mode) ≡ true

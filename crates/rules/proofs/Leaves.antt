@@ -24,6 +24,7 @@ use Rattle.rules.specs.declared.phase.Phase.the-variants.{Rest, Taking, 
 use Rattle.rules.specs.declared.event.Act.{Act}
 use Rattle.rules.specs.declared.event.Act.the-variants.{Command, Give, Take, Online, Offline}
 use Rattle.rules.specs.Drive.{withBit, inMode, made, passedTo, writes}
+use Rattle.rules.specs.Promises.Changes.{blockAsks}
 use Rattle.rules.specs.Phase.{atRest}
 use Rattle.rules.specs.Edge.{isBlock, halted, spoilt, edged, checked, standing}
 use Rattle.rules.specs.Effect.{Seat, Acted, withMark, withBlock}
@@ -147,7 +148,7 @@ module _ (g : List ℕ) (s : Seat) where
     marks : a ≡ Command 96 → m .moved .raised ≡ false → s .drive .head + 1 ≤ length (s .tape) → Changes a m (withMark (s .drive) (s .tape))
     leaves-mark : a ≡ Offline → s .port .online ≡ true → writes (s .drive) ≡ true → m .moved .raised ≡ false
         → s .drive .head + 1 ≤ length (s .tape) → Changes a m (withMark (s .drive) (s .tape))
-    blocks : (b : ℕ) → a ≡ Give b → s .port .phase ≡ Taking 511 → s .drive .head + 1541 ≤ length (s .tape)
+    blocks : (b : ℕ) → a ≡ Give b → s .port .phase ≡ Taking 511 → s .drive .head + blockAsks (s .drive .late) ≤ length (s .tape)
         → Changes a m (withBlock g (s .drive) (s .tape))
 
   pub record Leaf (a : Act) (m : Acted) : Type 0 where
@@ -247,9 +248,9 @@ module _ (g : List ℕ) (s : Seat) where
   pub does-leaf : (a : Act) (m : Acted) → Acts.Does g s a m → Leaf a m
   does-leaf a m (Acts.nothing c) = silent a m (as-was m refl refl refl refl refl) kept refl refl (other a m refl)
   does-leaf a m (Acts.selects c k l e) = silent a m (as-was m refl refl refl refl refl) kept refl refl (other a m refl)
-  does-leaf a m (Acts.rewinds c) = silent a m (as-was m refl refl refl refl refl) kept refl refl (other a m refl)
+  does-leaf a m (Acts.rewinds c i) = silent a m (as-was m refl refl refl refl refl) kept refl refl (other a m refl)
   does-leaf a m (Acts.erases p) = silent a m (as-was m refl refl refl refl refl) (erases refl refl) refl refl (other a m refl)
-  does-leaf a m (Acts.sets-writing c p) = silent a m (as-was m refl refl refl refl refl) kept refl refl (other a m refl)
+  does-leaf a m (Acts.sets-writing p) = silent a m (as-was m refl refl refl refl refl) kept refl refl (other a m refl)
   does-leaf a m (Acts.records-mark p) = silent a m (as-was m refl refl refl refl refl) (marks refl refl (leb-true _ _ (p .room))) refl refl (other a m refl)
   does-leaf a m (Acts.sets-reading c p) = silent a m (edge m (inMode Reading (s .drive)) refl refl refl refl refl refl) kept refl refl (other a m refl)
   does-leaf a m (Acts.searches c) =
@@ -272,7 +273,7 @@ module _ (g : List ℕ) (s : Seat) where
   does-leaf a m (Acts.meets-plug c) = silent a m (loud m refl refl (report-same (s .drive) _ refl refl refl)) kept refl refl (other a m refl)
   does-leaf a m (Acts.finds-no-room c) = silent a m (one-bit m Eom refl refl refl refl refl) kept refl refl (other a m refl)
   does-leaf a m (Acts.stages b k l w) = silent a m (as-was m refl refl refl refl refl) kept refl refl (other a m refl)
-  does-leaf a m (Acts.records-block b q w r) = silent a m (as-was m refl refl refl refl refl) (blocks b refl q r) refl refl (other a m refl)
+  does-leaf a m (Acts.records-block b q w r n) = silent a m (as-was m refl refl refl refl refl) (blocks b refl q r) refl refl (other a m refl)
   does-leaf a m (Acts.records-last b q w r) = silent a m (one-bit m Eom refl refl refl refl refl) (blocks b refl q r) refl refl (other a m refl)
   does-leaf a m (Acts.drops-block b) = silent a m (one-bit m Eom refl refl refl refl refl) kept refl refl (other a m refl)
   does-leaf a m (Acts.hands-octet k e) = handing m (as-was m refl refl refl refl refl) refl refl (λ h. absurd (false≢true h))

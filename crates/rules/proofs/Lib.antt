@@ -1,6 +1,7 @@
 pub mod Phases
 pub mod Numbers
 pub mod Places
+pub mod Rooms
 pub mod Sound
 pub mod Codes
 pub mod Tests
@@ -18,6 +19,8 @@ pub mod BadActs
 pub mod BadKinds
 pub mod Plug
 pub mod Changes
+pub mod Lates
+pub mod LateRuns
 pub mod Outcomes
 pub mod Runs
 pub mod Sentences

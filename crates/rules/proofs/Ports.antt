@@ -53,7 +53,7 @@ commanded-ported s o Full = kept refl refl (λ d. refl)
 pub give-ported : (g : List ℕ) (s : Seat) (b : ℕ) (m : Acted) → Acts.Does g s (Give b) m → (m .moved .port .selected ≡ s .port .selected)
     × (m .moved .port .online ≡ s .port .online)
 give-ported g s b m (Acts.stages x n l w) = (refl, refl)
-give-ported g s b m (Acts.records-block x q w r) = (refl, refl)
+give-ported g s b m (Acts.records-block x q w r n) = (refl, refl)
 give-ported g s b m (Acts.records-last x q w r) = (refl, refl)
 give-ported g s b m (Acts.drops-block x) = (refl, refl)
 

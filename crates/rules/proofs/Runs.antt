@@ -5,6 +5,7 @@ use Rattle.tape.specs.Record.{ofKind, foundAt}
 use Rattle.tape.specs.Recording.{recorded}
 use Rattle.tape.specs.Walk.{walk, trail}
 use Rattle.rules.specs.Drive.{counted}
+use Rattle.rules.specs.Late.{allowedAt, goesOn}
 use Rattle.rules.specs.Unit.{oneOf, putAt, putLast}
 use Rattle.rules.specs.Event.{bareEvent, bodiedEvent, eventOf}
 use Rattle.rules.specs.Refusal.{possibleDrive, possiblePhase, possible, short, refusalOf}
@@ -20,10 +21,11 @@ use Rattle.rules.specs.Run.{after, turnOf}
 use Rattle.rules.specs.Reach.{reaches}
 use Rattle.rules.specs.Promises.Samples.{Samples}
 use Rattle.rules.specs.Promises.Runs.{StarredRunsHold, RunsToCheckHold}
+use Rattle.rules.specs.Promises.Closing.{TrialCloses, ReportsTell, TrialComesBack, TrialStays}
 
 all-hold : StarredRunsHold × RunsToCheckHold × Samples
 unfolding pick ofKind foundAt recorded walk trail counted oneOf putAt putLast bareEvent bodiedEvent eventOf possibleDrive possiblePhase possible
-    short refusalOf linesOf orderOf illegal faultBy checked octetsOf faultOf stagedByte afterBlock stored handed octetTaken
+    short refusalOf linesOf orderOf illegal faultBy checked octetsOf faultOf stagedByte allowedAt goesOn afterBlock stored handed octetTaken
     dropped stepBy stepOf after turnOf reaches
 all-hold = (refl, refl, record { plain = refl; busy = refl; busyTape = refl; shorter = refl; shorterTape = refl })
 
@@ -35,3 +37,27 @@ runs-to-check-hold = all-hold .1
 
 pub samples : Samples
 samples = all-hold .2
+
+pub trial-closes : TrialCloses
+unfolding pick ofKind foundAt recorded walk trail counted oneOf putAt putLast bareEvent bodiedEvent eventOf possibleDrive possiblePhase possible
+    short refusalOf linesOf orderOf illegal faultBy checked octetsOf faultOf stagedByte allowedAt goesOn afterBlock stored handed octetTaken
+    dropped stepBy stepOf after turnOf reaches
+trial-closes = refl
+
+pub reports-tell : ReportsTell
+unfolding pick ofKind foundAt recorded walk trail counted oneOf putAt putLast bareEvent bodiedEvent eventOf possibleDrive possiblePhase possible
+    short refusalOf linesOf orderOf illegal faultBy checked octetsOf faultOf stagedByte allowedAt goesOn afterBlock stored handed octetTaken
+    dropped stepBy stepOf after turnOf reaches
+reports-tell = refl
+
+pub trial-comes-back : TrialComesBack
+unfolding pick ofKind foundAt recorded walk trail counted oneOf putAt putLast bareEvent bodiedEvent eventOf possibleDrive possiblePhase possible
+    short refusalOf linesOf orderOf illegal faultBy checked octetsOf faultOf stagedByte allowedAt goesOn afterBlock stored handed octetTaken
+    dropped stepBy stepOf after turnOf reaches
+trial-comes-back = refl
+
+pub trial-stays : TrialStays
+unfolding pick ofKind foundAt recorded walk trail counted oneOf putAt putLast bareEvent bodiedEvent eventOf possibleDrive possiblePhase possible
+    short refusalOf linesOf orderOf illegal faultBy checked octetsOf faultOf stagedByte allowedAt goesOn afterBlock stored handed octetTaken
+    dropped stepBy stepOf after turnOf reaches
+trial-stays = refl

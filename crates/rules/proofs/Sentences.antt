@@ -5,6 +5,7 @@ use Rattle.tape.specs.Record.{ofKind, foundAt}
 use Rattle.tape.specs.Recording.{recorded}
 use Rattle.tape.specs.Walk.{walk, trail}
 use Rattle.rules.specs.Drive.{counted}
+use Rattle.rules.specs.Late.{allowedAt, goesOn}
 use Rattle.rules.specs.Unit.{oneOf, putAt, putLast}
 use Rattle.rules.specs.Event.{bareEvent, bodiedEvent, eventOf}
 use Rattle.rules.specs.Refusal.{possibleDrive, possiblePhase, possible, short, refusalOf}
@@ -21,7 +22,7 @@ use Rattle.rules.specs.Promises.Sentences.{SentencesHold}
 
 pub sentences-hold : SentencesHold
 unfolding pick ofKind foundAt recorded walk trail counted oneOf putAt putLast bareEvent bodiedEvent eventOf possibleDrive possiblePhase possible
-    short refusalOf linesOf orderOf illegal faultBy checked octetsOf faultOf stagedByte afterBlock stored handed octetTaken
+    short refusalOf linesOf orderOf illegal faultBy checked octetsOf faultOf stagedByte allowedAt goesOn afterBlock stored handed octetTaken
     dropped stepBy stepOf after turnOf
 sentences-hold =
     record {
@@ -65,6 +66,10 @@ sentences-hold =
       cartridge-in = refl;
       cartridge-out = refl;
       counts = refl;
+      late-stored = refl;
+      late-kept = refl;
+      late-gone = refl;
+      late-5 = refl;
       bits = refl;
       counters = refl;
       report = refl;

@@ -29,7 +29,7 @@ use Rattle.rules.proofs.Sound.{Fit, Sound}
 
 -- What stands in the place of the other three drives, and a number that is not d.
 abbrev pub quiet : Drive
-quiet = drive false false 0 Idle false noBits noErrors noUnderruns
+quiet = drive false false 0 Idle 0 false noBits noErrors noUnderruns
 
 unfoldable pub elsewhere : ℕ → ℕ
 elsewhere d = pick (eqb d 0) 1 0
@@ -216,7 +216,7 @@ module _ (d : ℕ) (w : World) (k : Sound (w .core) (w .lent)) where
           (here-same d (w .core .port) ∙ e) e (seen-level d (w .core .port)) (look-drive d w) (look-tape d w)
 
   quiet-fit : Fit quiet
-  quiet-fit = record { near = zero-le; mode = refl }
+  quiet-fit = record { near = zero-le; mode = refl; late = refl }
 
   pub look-sound : Sound (look d w .core) (look d w .lent)
   unfolding possiblePhase

@@ -12,7 +12,7 @@ use Rattle.rules.specs.declared.drive.Mode.the-variants.{Idle, Writing, 
 use Rattle.rules.specs.declared.unit.Core.{Core}
 use Rattle.rules.specs.Unit.{Lent, driveAt, tapeAt, Whole}
 use Rattle.tape.specs.Record.{longest}
-use Rattle.rules.specs.Refusal.{modeFits, possibleDrive, possiblePhase, possible, short}
+use Rattle.rules.specs.Refusal.{modeFits, lateFits, possibleDrive, possiblePhase, possible, short}
 use Rattle.rules.specs.Effect.{Seat}
 use Rattle.rules.specs.Step.{seatOf}
 use Rattle.basis.proofs.Choosing.{both, join}
@@ -22,16 +22,18 @@ use Rattle.rules.proofs.Places.{one-holds, all-hold}
 pub record Fit (d : Drive) : Type 0 where
   pub near : d .head ≤ longest
   pub mode : modeFits (d .mode) (d .loaded) (d .protected) ≡ true
+  pub late : lateFits (d .mode) (d .late) ≡ true
 
 pub fit-of : (d : Drive) → possibleDrive d ≡ true → Fit d
 unfolding possibleDrive
 fit-of d h =
-    let p = both (leb (d .head) longest) (modeFits (d .mode) (d .loaded) (d .protected)) h in
-    record { near = leb-true _ _ (p .0); mode = p .1 }
+    let p = both (leb (d .head) longest) _ h in
+    let q = both (modeFits (d .mode) (d .loaded) (d .protected)) (lateFits (d .mode) (d .late)) (p .1) in
+    record { near = leb-true _ _ (p .0); mode = q .0; late = q .1 }
 
 pub of-fit : (d : Drive) → Fit d → possibleDrive d ≡ true
 unfolding possibleDrive
-of-fit d f = join _ _ (le-leb _ _ (f .near)) (f .mode)
+of-fit d f = join _ _ (le-leb _ _ (f .near)) (join _ _ (f .mode) (f .late))
 
 -- Idle fits wherever another mode does.
 pub idle-fits : (m : Mode) (l p : Bool) → modeFits m l p ≡ true → modeFits Idle l p ≡ true
@@ -85,21 +87,28 @@ sound-short c l k =
           (length (l .tape3)) longest (f .3),
     )
 
+-- every drive of a possible record
+pub possible-fit : (c : Core) → possible c ≡ true → (i : ℕ) → Fit (driveAt c i)
+unfolding possible
+possible-fit c p =
+    let p1 = both (possiblePhase (c .port .phase) (driveAt c (c .port .selected) .mode)) _ (both (leb (c .port .selected) 3) _ p .1) in
+    let p2 = both (possibleDrive (c .drive0)) _ (p1 .1) in
+    let p3 = both (possibleDrive (c .drive1)) _ (p2 .1) in
+    let p4 = both (possibleDrive (c .drive2)) _ (p3 .1) in
+    one-holds Fit (fit-of _ (p2 .0)) (fit-of _ (p3 .0)) (fit-of _ (p4 .0)) (fit-of _ (p4 .1))
+
 pub sound : (c : Core) (l : Lent) → possible c ≡ true → short l ≡ true → Whole l → Sound c l
 unfolding possible short
 sound c l p q w =
     let p0 = both (leb (c .port .selected) 3) _ p in
     let p1 = both (possiblePhase (c .port .phase) (driveAt c (c .port .selected) .mode)) _ (p0 .1) in
-    let p2 = both (possibleDrive (c .drive0)) _ (p1 .1) in
-    let p3 = both (possibleDrive (c .drive1)) _ (p2 .1) in
-    let p4 = both (possibleDrive (c .drive2)) _ (p3 .1) in
     let q0 = both (leb (length (l .tape0)) longest) _ q in
     let q1 = both (leb (length (l .tape1)) longest) _ (q0 .1) in
     let q2 = both (leb (length (l .tape2)) longest) _ (q1 .1) in
     record {
       sel = leb-true _ _ (p0 .0);
       phase = p1 .0;
-      fit = one-holds Fit (fit-of _ (p2 .0)) (fit-of _ (p3 .0)) (fit-of _ (p4 .0)) (fit-of _ (p4 .1));
+      fit = possible-fit c p;
       near =
           one-holds (λ (t : List ℕ). length t ≤ longest) (leb-true _ _ (q0 .0)) (leb-true _ _ (q1 .0)) (leb-true _ _ (q2 .0))
           (leb-true _ _ (q2 .1));

@@ -16,7 +16,7 @@ use Rattle.rules.specs.declared.drive.Mode.the-variants.{Idle, Writing}
 use Rattle.rules.specs.declared.unit.Port.{Port}
 use Rattle.rules.specs.declared.phase.Phase.{Phase}
 use Rattle.rules.specs.declared.phase.Phase.the-variants.{Rest}
-use Rattle.rules.specs.Drive.{setHead, inMode, made, writes}
+use Rattle.rules.specs.Drive.{setHead, inMode, allowing, made, writes}
 use Rattle.rules.specs.Unit.{atPhase}
 use Rattle.rules.specs.Effect.{Seat, seat, Acted}
 use Rattle.rules.specs.Run.{World, after, run, turns, givenEach}
@@ -27,7 +27,7 @@ use Rattle.rules.proofs.Ran.{run-append, turns-append}
 use Rattle.rules.proofs.Seated.{Sits, sits-works, left}
 use Rattle.rules.proofs.Giving.{block-given}
 use Rattle.rules.proofs.Ways.{Fit, write-moves, mark-moves}
-use Rattle.rules.proofs.Blocks.{given-append, taken-append, strike-size, here-at-rest, ready-fit, stored-on}
+use Rattle.rules.proofs.Blocks.{given-append, taken-append, strike-size, here-at-rest, ready-fit, ready-none, stored-on}
 
 record Struck (p : Port) (d : Drive) (t : List ℕ) (bs : List (List ℕ)) (w : World) : Type 0 where
   staging : List ℕ
@@ -38,20 +38,20 @@ record Struck (p : Port) (d : Drive) (t : List ℕ) (bs : List (List ℕ)) (w : 
 fit-writes : (p : Port) (d : Drive) → Fit p d Writing → writes d ≡ true
 fit-writes p d f = rw (f .mode, f .calm)
 
-struck : (p : Port) (bs : List (List ℕ)) (d : Drive) (t g : List ℕ) (w : World) → AllWhole bs → Fit p d Writing → d .protected ≡ false
+struck : (p : Port) (bs : List (List ℕ)) (d : Drive) (t g : List ℕ) (w : World) → AllWhole bs → Fit p d Writing → d .late ≡ 0 → d .protected ≡ false
     → d .head + length bs * 513 + 1541 ≤ length t → Sits w g (seat (atPhase Rest p) d t) → Struck p d t bs w
 unfolding pick
-struck p [] d t g w a f o r k =
+struck p [] d t g w a f n o r k =
     let m = mark-moves p d t w g k f o (omega (arith, r)) in record { staging = g; next = m .next; answers = (m .answer, tt) }
-struck p (b ∷ bs) d t g w (e, a) f o r k =
+struck p (b ∷ bs) d t g w (e, a) f n o r k =
     let far : d .head + 513 + length bs * 513 + 1541 ≤ length t = omega (arith, r) in
     let given = block-given p d t (fit-writes p d f) w g b e k in
-    let on = stored-on b (atPhase Rest p) d t e (omega (arith, far)) in
+    let on = stored-on b (atPhase Rest p) d t e n (omega (arith, far)) in
     let fits : d .head + length (blockRecord b) ≤ length t = omega (arith, e, far) in
     let sits = subst (λ (m : Acted). Sits (run w (givenEach b)) b (left m)) on (given .next) in
     let f′ : Fit p (made (d .head + 513) d) Writing = record { online = f .online; loaded = f .loaded; calm = f .calm; mode = f .mode } in
     let size = recorded-length t (blockRecord b) (d .head) fits in
-    let rest = struck p bs (made (d .head + 513) d) (recorded t (d .head) (blockRecord b)) b (run w (givenEach b)) a f′ o (rw size far) sits in
+    let rest = struck p bs (made (d .head + 513) d) (recorded t (d .head) (blockRecord b)) b (run w (givenEach b)) a f′ n o (rw size far) sits in
     let events : givenEach (b ++ joined bs) ++ command 96 ≡ givenEach b ++ (givenEach (joined bs) ++ command 96) =
     ap (λ (x : List (List ℕ)). x ++ command 96) (given-append b (joined bs)) ∙ append-assoc (givenEach b) (givenEach (joined bs)) (command 96) in
     let head : d .head + 513 + length (strike bs) ≡ d .head + length (strike (b ∷ bs)) = omega (arith, strike-size b bs e) in
@@ -72,8 +72,8 @@ struck p (b ∷ bs) d t g w (e, a) f o r k =
 
 -- ---- from a world that is ready
 
-idle-again : (d : Drive) (x : ℕ) (m : Mode) → d .mode ≡ Idle → inMode Idle (setHead x (inMode m d)) ≡ setHead x d
-idle-again d x m e = ap (λ (y : Mode). inMode y (setHead x d)) (sym e)
+idle-again : (d : Drive) (x : ℕ) (m : Mode) → d .mode ≡ Idle → d .late ≡ 0 → inMode Idle (setHead x (inMode m d)) ≡ setHead x d
+idle-again d x m e n = ap (λ (y : Mode). inMode y (setHead x d)) (sym e) ∙ ap (λ (y : ℕ). allowing y (setHead x d)) (sym n)
 
 rest-again : (p : Port) → p .phase ≡ Rest → atPhase Rest p ≡ p
 rest-again p e = ap (λ (y : Phase). atPhase y p) (sym e)
@@ -88,12 +88,12 @@ strike-recorded w bs a m =
     let f′ : Fit p (inMode Writing d) Writing = record { online = f .online; loaded = f .loaded; calm = f .calm; mode = refl } in
     let begun =
     write-moves p d (tapeOf w) w (w .lent .staging) (here-at-rest w (r .works) (r .rest)) f (m .unplugged) (omega (arith, m .room)) in
-    let made = struck p bs (inMode Writing d) (tapeOf w) (w .lent .staging) (after w (1 ∷ 64 ∷ [])) a f′ (m .unplugged) (m .room) (begun .next) in
+    let made = struck p bs (inMode Writing d) (tapeOf w) (w .lent .staging) (after w (1 ∷ 64 ∷ [])) a f′ refl (m .unplugged) (m .room) (begun .next) in
     let seen = made .next .seat in (
       (begun .answer, made .answers),
       record {
         tape = ap (λ (s : Seat). s .tape) seen;
-        drive = ap (λ (s : Seat). s .drive) seen ∙ idle-again d (d .head + length (strike bs)) Writing (r .idle);
+        drive = ap (λ (s : Seat). s .drive) seen ∙ idle-again d (d .head + length (strike bs)) Writing (r .idle) (ready-none w r);
         port = ap (λ (s : Seat). s .port) seen ∙ rest-again p (r .rest);
         works = sits-works (made .next);
       },

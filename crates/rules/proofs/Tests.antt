@@ -85,7 +85,7 @@ room-asked : (k h size : ℕ) → not (hasRoom (roomAsked k) h size) ≡ (among 
 unfolding pick
 room-asked k h size = go (eqb k 64) (eqb k 96)
   where
-    go : (w m : Bool) → not (hasRoom (pick w 1541 (pick m 1 0)) h size) ≡ ((w || (m || false)) && not (leb (h + pick w 1541 (pick m 1 0)) size))
+    go : (w m : Bool) → not (hasRoom (pick w 514 (pick m 1 0)) h size) ≡ ((w || (m || false)) && not (leb (h + pick w 514 (pick m 1 0)) size))
     go true m = refl
     go false true = refl
     go false false = refl

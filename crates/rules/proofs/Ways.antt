@@ -3,6 +3,7 @@ use Prim.Native.Nat.{ℕ, _+_, _≤_}
 use mathlib.Core.Path.{_≡_, refl, ap, subst, _∙_}
 use mathlib.Core.Bool.{true, false}
 use mathlib.Core.List.{List, [], _∷_}
+use native.Mathlib.Omega.{arith}
 use lib.ListN.{length}
 use borrow.Author.Tests.{le-leb}
 use Rattle.basis.specs.Choice.{pick}
@@ -36,6 +37,7 @@ use Rattle.rules.specs.Run.{World, after}
 use Rattle.rules.proofs.Codes.{orders, command-event}
 use Rattle.rules.proofs.Tests.{status-passes}
 use Rattle.rules.proofs.Seated.{Sits, Moves, sits-step}
+use Rattle.rules.proofs.Rooms.{none-late}
 use Rattle.rules.proofs.Handing.{take-event}
 
 -- A drive that takes tape orders: loaded, without EXCEPTION, ONLINE up.
@@ -67,7 +69,7 @@ module _ (p : Port) (d : Drive) (t : List ℕ) where
 
   write-fine : Fit p d Idle → d .protected ≡ false → d .head + 1541 ≤ length t → faultOf here Write ≡ Fine
   unfolding faultOf faultBy illegal pick
-  write-fine f o r = rw (f .calm, f .mode, f .online, f .loaded, o, le-leb (d .head + 1541) (length t) r)
+  write-fine f o r = rw (f .calm, f .mode, f .online, f .loaded, o, le-leb (d .head + 514) (length t) (omega (arith, r)))
 
   mark-fine : Fit p d Writing → d .protected ≡ false → d .head + 1 ≤ length t → faultOf here WriteMark ≡ Fine
   unfolding faultOf faultBy illegal pick
@@ -87,7 +89,7 @@ module _ (p : Port) (d : Drive) (t : List ℕ) where
 
   pub write-moves : (w : World) (g : List ℕ) → Sits w g here → Fit p d Idle → d .protected ≡ false → d .head + 1541 ≤ length t
       → Moves w (1 ∷ 64 ∷ []) g (leaves false (atPhase Rest p) (inMode Writing d) t)
-  write-moves w g k f o r = order-moves w g 64 Write k (orders .write) (write-fine f o r) refl
+  write-moves w g k f o r = rw (none-late (d .head) (length t) r) at (order-moves w g 64 Write k (orders .write) (write-fine f o r) refl)
 
   pub mark-moves : (w : World) (g : List ℕ) → Sits w g here → Fit p d Writing → d .protected ≡ false → d .head + 1 ≤ length t
       → Moves w (1 ∷ 96 ∷ []) g (leaves false (atPhase Rest p) (inMode Idle (made (d .head + 1) d)) (recorded t (d .head) markRecord))

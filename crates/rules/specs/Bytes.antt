@@ -14,9 +14,9 @@ use Rattle.rules.specs.declared.phase.Phase.{Phase}
 use Rattle.rules.specs.declared.phase.Phase.the-variants.{Rest, Taking, Giving, Status}
 use Rattle.rules.specs.declared.order.Checked.{Checked}
 use Rattle.rules.specs.Drive.{stopping, made, passedTo}
+use Rattle.rules.specs.Late.{blockRoom, oneLess, goesOn}
 use Rattle.rules.specs.Phase.{lastPlace, reportSize}
 use Rattle.rules.specs.Unit.{atPhase}
-use Rattle.rules.specs.Order.{writeRoom}
 use Rattle.rules.specs.Edge.{isBlock, halted, spoilt, checked}
 use Rattle.rules.specs.Effect.{Seat, Acted, leaves, hands, withBlock, resting}
 
@@ -27,19 +27,15 @@ placeOf n = pick (ltb n lastPlace) n lastPlace
 unfoldable pub stagedByte : ℕ → ℕ → List ℕ → List ℕ
 stagedByte n b g = set g (placeOf n) b
 
--- Room for a block at a drive's head, with what is kept past early warning.
-abbrev pub roomToWrite : Drive → List ℕ → Bool
-roomToWrite d t = leb (d .head + writeRoom) (length t)
-
--- After recording, if head + 1541 > L, EOM.
-unfoldable pub afterBlock : Port → Drive → List ℕ → Acted
-afterBlock p d t = pick (roomToWrite d t) (leaves false p d t) (leaves true p (stopping Eom d) t)
+-- After recording in a WRITE that still allowed `late` blocks: EOM, unless it goes on.
+unfoldable pub afterBlock : ℕ → Port → Drive → List ℕ → Acted
+afterBlock late p d t = pick (goesOn late (d .head) (length t)) (leaves false p d t) (leaves true p (stopping Eom d) t)
 
 -- The block g is whole: it is recorded, or dropped with EOM where it has no room.
 unfoldable pub stored : List ℕ → Port → Drive → List ℕ → Acted
 stored g p d t =
-    pick (roomToWrite d t)
-    (afterBlock p (made (d .head + blockSize) d) (withBlock g d t))
+    pick (blockRoom (d .late) (d .head) (length t))
+    (afterBlock (d .late) p (oneLess (made (d .head + blockSize) d)) (withBlock g d t))
     (leaves true p (stopping Eom d) t)
 
 -- A byte given where n were given before, and g is the staging block with the byte in it. No tape byte changes before the 512th.

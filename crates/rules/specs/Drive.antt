@@ -36,25 +36,30 @@ withBit Ill l = record { cni = l .cni; eom = l .eom; ude = l .ude; bnl = l .bnl;
 withBit Ndt l = record { cni = l .cni; eom = l .eom; ude = l .ude; bnl = l .bnl; fil = l .fil; ill = l .ill; ndt = true; por = l .por }
 withBit Por l = record { cni = l .cni; eom = l .eom; ude = l .ude; bnl = l .bnl; fil = l .fil; ill = l .ill; ndt = l .ndt; por = true }
 
--- A record by its parts: cartridge and plug; head; mode; EXCEPTION and latched bits; both counts.
-abbrev pub drive : Bool → Bool → ℕ → Mode → Bool → Latched → Errors → Underruns → Drive
-drive l p h m e k a b = record { loaded = l; protected = p; head = h; mode = m; exception = e; latched = k; errors = a; underruns = b }
+-- A record by its parts: cartridge and plug; head; mode and late blocks still allowed; EXCEPTION and latched bits; both counts.
+abbrev pub drive : Bool → Bool → ℕ → Mode → ℕ → Bool → Latched → Errors → Underruns → Drive
+drive l p h m n e k a b =
+    record { loaded = l; protected = p; head = h; mode = m; late = n; exception = e; latched = k; errors = a; underruns = b }
 
 -- Each part set by itself: what a move does not name stays.
 abbrev pub setCartridge : Bool → Bool → Drive → Drive
-setCartridge l p d = drive l p (d .head) (d .mode) (d .exception) (d .latched) (d .errors) (d .underruns)
+setCartridge l p d = drive l p (d .head) (d .mode) (d .late) (d .exception) (d .latched) (d .errors) (d .underruns)
 
 abbrev pub setHead : ℕ → Drive → Drive
-setHead h d = drive (d .loaded) (d .protected) h (d .mode) (d .exception) (d .latched) (d .errors) (d .underruns)
+setHead h d = drive (d .loaded) (d .protected) h (d .mode) (d .late) (d .exception) (d .latched) (d .errors) (d .underruns)
 
+-- Another mode, and with it no late block: the one place that changes the mode. Then so many late blocks allowed.
 abbrev pub inMode : Mode → Drive → Drive
-inMode m d = drive (d .loaded) (d .protected) (d .head) m (d .exception) (d .latched) (d .errors) (d .underruns)
+inMode m d = drive (d .loaded) (d .protected) (d .head) m 0 (d .exception) (d .latched) (d .errors) (d .underruns)
+
+abbrev pub allowing : ℕ → Drive → Drive
+allowing n d = drive (d .loaded) (d .protected) (d .head) (d .mode) n (d .exception) (d .latched) (d .errors) (d .underruns)
 
 abbrev pub setReport : Bool → Latched → Drive → Drive
-setReport e k d = drive (d .loaded) (d .protected) (d .head) (d .mode) e k (d .errors) (d .underruns)
+setReport e k d = drive (d .loaded) (d .protected) (d .head) (d .mode) (d .late) e k (d .errors) (d .underruns)
 
 abbrev pub setCounts : Errors → Underruns → Drive → Drive
-setCounts a b d = drive (d .loaded) (d .protected) (d .head) (d .mode) (d .exception) (d .latched) a b
+setCounts a b d = drive (d .loaded) (d .protected) (d .head) (d .mode) (d .late) (d .exception) (d .latched) a b
 
 abbrev pub noErrors : Errors
 noErrors = record { 0 = 0 }
@@ -62,9 +67,9 @@ noErrors = record { 0 = 0 }
 abbrev pub noUnderruns : Underruns
 noUnderruns = record { 0 = 0 }
 
--- Fresh: no cartridge or plug, head 0, Idle, counters 0, POR latched and EXCEPTION up.
+-- Fresh: no cartridge or plug, head 0, Idle, no late block, counters 0, POR latched and EXCEPTION up.
 abbrev pub freshDrive : Drive
-freshDrive = drive false false 0 Idle true (withBit Por noBits) noErrors noUnderruns
+freshDrive = drive false false 0 Idle 0 true (withBit Por noBits) noErrors noUnderruns
 
 -- RESET: as fresh; cartridge and plug stay.
 abbrev pub wasReset : Drive → Drive

@@ -7,7 +7,7 @@ use Rattle.tape.specs.Record.{markSize, markRecord, blockRecord}
 use Rattle.tape.specs.Recording.{recorded, erased}
 use Rattle.tape.specs.Walk.{passed}
 use Rattle.rules.specs.declared.drive.Drive.{Drive}
-use Rattle.rules.specs.declared.drive.Mode.the-variants.{Idle, Writing, Reading}
+use Rattle.rules.specs.declared.drive.Mode.the-variants.{Idle, Reading}
 use Rattle.rules.specs.declared.drive.Bit.the-variants.{Cni, Eom, Ill}
 use Rattle.rules.specs.declared.unit.Port.{Port}
 use Rattle.rules.specs.declared.phase.Phase.the-variants.{Rest}
@@ -18,6 +18,7 @@ use Rattle.rules.specs.declared.order.Fault.{Fault}
 use Rattle.rules.specs.declared.order.Fault.the-variants.{Fine, Illegal, Empty, Plugged, Full}
 use Rattle.rules.specs.declared.order.Checked.{Checked}
 use Rattle.rules.specs.Drive.{rewound, chosen, raised, latching, stopping, inMode, made, cleared}
+use Rattle.rules.specs.Late.{begun}
 use Rattle.rules.specs.Unit.{atPhase, atDrive, showing}
 use Rattle.rules.specs.Order.{needsOf, faultBy}
 use Rattle.rules.specs.Edge.{checked, standing}
@@ -65,7 +66,7 @@ ordered s (Select n) = leaves false (atDrive n (s .port)) (chosen (s .drive)) (s
 ordered s Bot = leaves false (resting s) (rewound (s .drive)) (s .tape)
 ordered s Erase = leaves false (resting s) (rewound (s .drive)) (erased (s .tape))
 ordered s Initialize = leaves false (resting s) (rewound (s .drive)) (s .tape)
-ordered s Write = leaves false (resting s) (inMode Writing (s .drive)) (s .tape)
+ordered s Write = leaves false (resting s) (begun (length (s .tape)) (s .drive)) (s .tape)
 ordered s WriteMark =
     leaves false (resting s) (inMode Idle (made (s .drive .head + markSize) (s .drive))) (withMark (s .drive) (s .tape))
 ordered s Read =

@@ -1,4 +1,5 @@
 pub mod Drive
+pub mod Late
 pub mod Phase
 pub mod Unit
 pub mod Event

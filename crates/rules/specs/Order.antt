@@ -12,6 +12,7 @@ use Rattle.rules.specs.declared.order.Order.the-variants.{NoOrder, Selec
 use Rattle.rules.specs.declared.order.Needs.{Needs}
 use Rattle.rules.specs.declared.order.Fault.{Fault}
 use Rattle.rules.specs.declared.order.Fault.the-variants.{Fine, Illegal, Empty, Plugged, Full}
+use Rattle.rules.specs.Late.{keptLate}
 
 -- The twelve codes, in decimal as they stand on the cable; every other octet is no order.
 unfoldable pub orderOf : ℕ → Order
@@ -29,12 +30,9 @@ orderOf c =
     (pick (eqb c 160) ReadMark
     (pick (eqb c 192) ReadStatus NoOrder)))))))))))
 
--- The room that WRITE needs, 1541: a block, and 1028 kept past early warning. The room that a mark needs.
-abbrev pub kept : ℕ
-kept = 1028
-
+-- The room that WRITE needs, 514: that of a late block. The room that a mark needs.
 abbrev pub writeRoom : ℕ
-writeRoom = blockSize + kept
+writeRoom = blockSize + keptLate
 
 abbrev pub markRoom : ℕ
 markRoom = 1

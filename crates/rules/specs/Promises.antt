@@ -15,3 +15,5 @@ pub mod Outcomes
 pub mod Demand3
 pub mod Samples
 pub mod Strike
+pub mod Late
+pub mod Closing

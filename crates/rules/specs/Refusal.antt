@@ -3,7 +3,7 @@ use Prim.Native.Nat.{ℕ}
 use mathlib.Core.Bool.{Bool, true, false, not, _&&_, _||_}
 use mathlib.Core.List.{List}
 use lib.ListN.{length}
-use lib.Dec.{leb}
+use lib.Dec.{leb, eqb}
 use Rattle.basis.specs.Choice.{pick}
 use Rattle.tape.specs.Record.{longest}
 use Rattle.rules.specs.declared.drive.Drive.{Drive}
@@ -21,6 +21,7 @@ use Rattle.rules.specs.declared.event.Event.the-variants.{NoEvent, Reset
 use Rattle.rules.specs.declared.answer.Answer.{Answer}
 use Rattle.rules.specs.declared.answer.Answer.the-variants.{Taken, Raised, OutOfStep, WrongSlot, Malformed, Impossible, TooLong}
 use Rattle.rules.specs.Drive.{isWriting, isReading, writes, reads}
+use Rattle.rules.specs.Late.{lateBlocks}
 use Rattle.rules.specs.Phase.{lastPlace, reportSize, atRest}
 use Rattle.rules.specs.Unit.{Lent, driveAt}
 
@@ -30,9 +31,15 @@ modeFits Idle loaded protected = loaded || not protected
 modeFits Writing loaded protected = loaded && not protected
 modeFits Reading loaded protected = loaded
 
+-- Late blocks: at most two, and none outside Writing.
+abbrev pub lateFits : Mode → ℕ → Bool
+lateFits Idle late = eqb late 0
+lateFits Writing late = leb late lateBlocks
+lateFits Reading late = eqb late 0
+
 -- A head above 16,777,216 is impossible.
 unfoldable pub possibleDrive : Drive → Bool
-possibleDrive d = leb (d .head) longest && modeFits (d .mode) (d .loaded) (d .protected)
+possibleDrive d = leb (d .head) longest && (modeFits (d .mode) (d .loaded) (d .protected) && lateFits (d .mode) (d .late))
 
 -- How far a block or a report can be, and the mode that goes with a part block.
 unfoldable pub possiblePhase : Phase → Mode → Bool

@@ -1,7 +1,9 @@
 // One drive's record and its moves: each takes the record and hands it back changed.
 ghost use mathlib.Core.Path.{_≡_};
+ghost use Prim.Native.Nat.{_-_};
 ghost use Rattle.rules.specs.Drive.{isWriting, isReading, withBit, noBits, freshDrive, wasReset, rewound, chosen, raised, latching, stopping};
-ghost use Rattle.rules.specs.Drive.{inMode, made, passedTo, cleared, counted, errorCounted, underrunCounted, loadedWith, pulled, writes, reads};
+ghost use Rattle.rules.specs.Drive.{inMode, allowing, made, passedTo, cleared, counted, errorCounted, underrunCounted, loadedWith, pulled, writes, reads};
+ghost use Rattle.rules.specs.Late.{oneLess};
 use crate::HIGHEST;
 
 pub enum Mode {
@@ -68,6 +70,7 @@ pub struct Drive {
     pub loaded: bool,
     pub protected: bool,
     pub mode: Mode,
+    pub late: u8,
     pub exception: bool,
     pub latched: Latched,
 }
@@ -129,6 +132,13 @@ pub fn one_more(n: u16) -> u16
     if n < HIGHEST { n + 1 } else { n }
 }
 
+// One less, where there is one.
+pub fn less(n: u8) -> u8
+    ensures { λ r. ⌜ r ≡ n - 1 ⌝ }
+{
+    if 0 < n { n - 1 } else { 0 }
+}
+
 impl Drive {
     // A fresh drive: no cartridge, POR latched, EXCEPTION up.
     pub fn fresh() -> Drive
@@ -140,6 +150,7 @@ impl Drive {
             protected: false,
             head: 0,
             mode: Mode::Idle,
+            late: 0,
             exception: true,
             latched: l,
             errors: Errors(0),
@@ -147,23 +158,42 @@ impl Drive {
         }
     }
 
-    // Another mode. The one place that writes the record anew.
+    // Another mode, and with it no late block. The one place that writes the record anew, and that changes the mode.
     pub fn in_mode(self, mode: Mode) -> Drive
         ensures { λ r. ⌜ r ≡ inMode mode self ⌝ }
     {
         let latched = self.latched;
         let errors = self.errors;
         let underruns = self.underruns;
+        let late = 0;
         Drive {
             loaded: self.loaded,
             protected: self.protected,
             head: self.head,
             mode,
+            late,
             exception: self.exception,
             latched,
             errors,
             underruns,
         }
+    }
+
+    // So many late blocks still allowed.
+    pub fn allow(self, late: u8) -> Drive
+        ensures { λ r. ⌜ r ≡ allowing late self ⌝ }
+    {
+        let mut d = self;
+        d.late = late;
+        d
+    }
+
+    // A block recorded: one late block less.
+    pub fn one_less(self) -> Drive
+        ensures { λ r. ⌜ r ≡ oneLess self ⌝ }
+    {
+        let late = less(self.late);
+        self.allow(late)
     }
 
     // RESET: as fresh, but for the cartridge and its plug.

@@ -35,10 +35,15 @@ pub const LAST_PLACE: usize = tape::BODY - 1;
 // The octets of one report.
 pub const OCTETS: usize = 6;
 
-// The room that WRITE asks for: a block, and 1028 bytes kept past early warning.
+// What is kept behind a block: past early warning, and behind a late block.
 pub const KEPT: usize = 1028;
 
-pub const WRITE_ROOM: usize = tape::BLOCK_SIZE + KEPT;
+pub const KEPT_LATE: usize = 1;
+
+// The room that WRITE asks for, that of a late block; and how many such blocks it may take.
+pub const WRITE_ROOM: usize = tape::BLOCK_SIZE + KEPT_LATE;
+
+pub const LATE_BLOCKS: u8 = 2;
 
 // The highest count.
 pub const HIGHEST: u16 = 65535;

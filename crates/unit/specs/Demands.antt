@@ -13,7 +13,7 @@ use Rattle.rules.specs.declared.answer.Turn.{Turn}
 use Rattle.rules.specs.Unit.{Lent, Whole, driveAt, tapeAt, freshCore}
 use Rattle.rules.specs.Event.{eventOf}
 use Rattle.rules.specs.Answer.{rowOf}
-use Rattle.rules.specs.Refusal.{short}
+use Rattle.rules.specs.Refusal.{possible, short}
 use Rattle.rules.specs.Step.{stepped, Steps}
 use Rattle.rules.specs.Run.{World, run, freshWorld}
 use Rattle.rules.specs.Reach.{Change, realChange, anyLevel, Gave, reachesBy, gaveBy, onlyIf, reached}
@@ -23,10 +23,11 @@ use Rattle.rules.specs.Promises.Orders.{IllegalRules}
 use Rattle.rules.specs.Promises.Status.{ByStatus}
 use Rattle.rules.specs.Promises.BadKinds.{KindTold}
 use Rattle.rules.specs.Promises.Plug.{meansDrive}
-use Rattle.rules.specs.Promises.Changes.{Happens}
+use Rattle.rules.specs.Promises.Changes.{LastByte, Happens}
 use Rattle.rules.specs.Promises.Changes
 use Rattle.rules.specs.Promises.Events.{joined}
 use Rattle.rules.specs.Promises.Strike.{driveOf, tapeOf, MayRecord, AllWhole, AllTaken, recording, reading, Back, passing, HandedOut, bytesOf, handedBy}
+use Rattle.rules.specs.Promises.Late.{LateMove, Behind, AtMostTwo}
 use Rattle.rules.specs.Promises.Demand3.{Alike}
 use Rattle.rules.specs.Ran.{Ran, RunsAreTheBooks}
 
@@ -101,6 +102,10 @@ module _ (c : Core) (l : Lent) (event : List ℕ) (r : Turn) (l′ : Lent) where
     -- What changes the selected drive's tape, and when.
     pub change : Changes.Change c l event (tapeAt l′ (c .port .selected))
     pub happens : Happens c l event (tapeAt l′ (c .port .selected))
+    -- What becomes of late blocks, and what stands behind a block that is recorded.
+    pub late : (i : ℕ) → i ≤ 3 → possible c ≡ true → LateMove c l event i (driveAt c i) (driveAt (r .core) i)
+    pub behind : (b : ℕ) → LastByte c l event b
+        → Behind (driveAt (r .core) (c .port .selected)) (tapeAt l′ (c .port .selected)) (driveAt c (c .port .selected) .head)
 
 pub record DemandsHold : Type 0 where
   -- 1. Every event gets the answer that the table gives.
@@ -109,6 +114,8 @@ pub record DemandsHold : Type 0 where
   pub by-the-rules : (c : Core) (l : Lent) (event : List ℕ) (r : Turn) (l′ : Lent) → Whole l → Steps c l event r l′ → ByTheRules c l event r l′
   -- Core, staging block, tapes and all that was answered are the book's after every run.
   pub books : RunsAreTheBooks
+  -- A WRITE past early warning takes at most two blocks.
+  pub two-late : AtMostTwo
   -- 3. One drive depends on what reaches it, and on nothing else.
   pub one-drive : OneDrive realChange
   -- The same where a level of ONLINE that is repeated counts too.

@@ -4,6 +4,8 @@ use mathlib.Core.Path.{_≡_}
 use mathlib.Core.Bool.{true, false}
 use mathlib.Core.List.{List}
 use lib.ListN.{length, set, take, replicate}
+use lib.Dec.{eqb}
+use Rattle.basis.specs.Choice.{pick}
 use Rattle.tape.specs.Record.{markSize, blockSize, markRecord, blockRecord}
 use Rattle.tape.specs.Recording.{recorded}
 use Rattle.tape.specs.Laws.{Kept}
@@ -32,12 +34,16 @@ pub record LineFalls (c : Core) (l : Lent) (event : List ℕ) : Type 0 where
   pub writing : writes (driveAt c (c .port .selected)) ≡ true
   pub answer : answerTo c l event ≡ Taken
 
+-- The room that a block asks for: 1541 bytes from the head on, in a late WRITE 514.
+abbrev pub blockAsks : ℕ → ℕ
+blockAsks late = pick (eqb late 0) 1541 514
+
 -- The 512th byte of a block, with room: it is taken, whether or not EOM follows.
 pub record LastByte (c : Core) (l : Lent) (event : List ℕ) (b : ℕ) : Type 0 where
   pub byte : eventOf event ≡ Own (Give b)
   pub place : c .port .phase ≡ Taking 511
   pub taken : rowOf (answerTo c l event) .refuses ≡ false
-  pub room : driveAt c (c .port .selected) .head + 1541 ≤ length (tapeAt l (c .port .selected))
+  pub room : driveAt c (c .port .selected) .head + blockAsks (driveAt c (c .port .selected) .late) ≤ length (tapeAt l (c .port .selected))
 
 -- The tape with every byte 0; with a mark at the head; and with a block, whose last byte is b and whose others are the 511 given before.
 abbrev pub allZero : Core → Lent → List ℕ

@@ -62,12 +62,12 @@ fits4 online k = among k taping && not online
 abbrev pub fits5 : Drive → ℕ → Bool
 fits5 d k = among k (moving ++ taping) && not (d .loaded)
 
--- 6. Protected, for ERASE, WRITE, WRITE FILE MARK. 7. Room: WRITE asks for 1541 bytes from the head on, WRITE FILE MARK for one.
+-- 6. Protected, for ERASE, WRITE, WRITE FILE MARK. 7. Room: WRITE asks for 514 bytes from the head on, WRITE FILE MARK for one.
 abbrev pub fits6 : Drive → ℕ → Bool
 fits6 d k = among k (34 ∷ 64 ∷ 96 ∷ []) && d .protected
 
 abbrev pub roomAsked : ℕ → ℕ
-roomAsked k = pick (eqb k 64) 1541 (pick (eqb k 96) 1 0)
+roomAsked k = pick (eqb k 64) 514 (pick (eqb k 96) 1 0)
 
 abbrev pub fits7 : Drive → ℕ → ℕ → Bool
 fits7 d size k = among k (64 ∷ 96 ∷ []) && not (leb (d .head + roomAsked k) size)

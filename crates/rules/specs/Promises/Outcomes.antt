@@ -15,7 +15,8 @@ use Rattle.rules.specs.declared.unit.Port.{Port}
 use Rattle.rules.specs.declared.unit.Unit.{Unit}
 use Rattle.rules.specs.Answer.{rowOf}
 use Rattle.rules.specs.Drive.{isWriting, isReading, withBit, noBits, freshDrive, wasReset, rewound, chosen, raised, latching, stopping}
-use Rattle.rules.specs.Drive.{inMode, made, passedTo, cleared, errorCounted, underrunCounted, loadedWith, pulled, writes, reads}
+use Rattle.rules.specs.Drive.{inMode, allowing, made, passedTo, cleared, errorCounted, underrunCounted, loadedWith, pulled, writes, reads}
+use Rattle.rules.specs.Late.{oneLess}
 use Rattle.rules.specs.Phase.{atRest, isStatus, restOrStatus, givenBefore, takenBefore, outstanding, whichPhase, howFar}
 use Rattle.rules.specs.Step.{Steps}
 use Rattle.rules.specs.Unit.{Lent, atPhase, atLevel, atDrive, showing, freshPort, driveAt, putDrive, freshCore, resetCore, freshUnit}
@@ -32,6 +33,8 @@ pub record OneOutcome : Type 0 where
   pub latched-with : (l : Latched) (b : Bit) (r r′ : Latched) → r ≡ withBit b l → r′ ≡ withBit b l → r ≡ r′
   pub drive-fresh : (r r′ : Drive) → r ≡ freshDrive → r′ ≡ freshDrive → r ≡ r′
   pub in-mode : (d : Drive) (m : Mode) (r r′ : Drive) → r ≡ inMode m d → r′ ≡ inMode m d → r ≡ r′
+  pub allow : (d : Drive) (late : ℕ) (r r′ : Drive) → r ≡ allowing late d → r′ ≡ allowing late d → r ≡ r′
+  pub one-less : (d r r′ : Drive) → r ≡ oneLess d → r′ ≡ oneLess d → r ≡ r′
   pub drive-reset : (d r r′ : Drive) → r ≡ wasReset d → r′ ≡ wasReset d → r ≡ r′
   pub rewind : (d r r′ : Drive) → r ≡ rewound d → r′ ≡ rewound d → r ≡ r′
   pub select : (d r r′ : Drive) → r ≡ chosen d → r′ ≡ chosen d → r ≡ r′

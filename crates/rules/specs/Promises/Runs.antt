@@ -1,5 +1,5 @@
 -- Runs to check: each from a fresh unit with a tape in drive 0.
-use Prim.Native.Nat.{ℕ}
+use Prim.Native.Nat.{ℕ, zero, suc}
 use mathlib.Core.Path.{_≡_}
 use mathlib.Core.List.{List, [], _∷_, _++_, map}
 use lib.ListN.{take, drop, replicate}
@@ -51,6 +51,11 @@ ready = openIn 0 ++ report
 abbrev pub readyProtected : List (List ℕ)
 readyProtected = protectedIn ++ report
 
+-- So many blocks of sevens, and what stands behind them.
+abbrev pub sevens : ℕ → List ℕ → List ℕ
+sevens zero t = t
+sevens (suc n) t = 1 ∷ (replicate 512 7 ++ sevens n t)
+
 abbrev pub starred : List Case
 starred =
     -- no cartridge: the first report, and the second
@@ -66,9 +71,15 @@ starred =
     ∷ case (replicate 16 0) (ready ++ (online ++ command 128)) 0 168 (replicate 16 0)
     -- WRITE meets the plug
     ∷ case (replicate 1541 0) (readyProtected ++ (online ++ command 64)) 144 136 (replicate 1541 0)
-    -- room for just one block, and a byte less
+    -- room for just one block
     ∷ case (replicate 1541 0) (ready ++ (online ++ (command 64 ++ giving 512 7))) 136 0 (1 ∷ (replicate 512 7 ++ replicate 1028 0))
-    ∷ case (replicate 1540 0) (ready ++ (online ++ command 64)) 136 136 (replicate 1540 0)
+    -- a byte less: WRITE is taken late, and takes two blocks; late again, it takes the third
+    ∷ case (replicate 1540 0) (ready ++ (online ++ command 64)) 0 136 (replicate 1540 0)
+    ∷ case (replicate 1540 0) (ready ++ (online ++ (command 64 ++ giving 1024 7))) 136 0 (sevens 2 (replicate 514 0))
+    ∷ case (replicate 1540 0) (ready ++ (online ++ (command 64 ++ (giving 1024 7 ++ (report ++ (command 64 ++ giving 512 7)))))) 136 0 (sevens 3 (0 ∷ []))
+    -- room for one late block, and a byte less
+    ∷ case (replicate 514 0) (ready ++ (online ++ (command 64 ++ giving 512 7))) 136 0 (sevens 1 (0 ∷ []))
+    ∷ case (replicate 513 0) (ready ++ (online ++ command 64)) 136 136 (replicate 513 0)
     -- a mark passed, an unknown kind behind it, and one at the beginning
     ∷ case (2 ∷ replicate 15 0) (ready ++ (online ++ command 160)) 129 0 (2 ∷ replicate 15 0)
     ∷ case (2 ∷ 7 ∷ replicate 14 0) (ready ++ (online ++ (command 160 ++ (report ++ command 128)))) 134 0 (2 ∷ 7 ∷ replicate 14 0)

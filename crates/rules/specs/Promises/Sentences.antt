@@ -7,6 +7,7 @@ pub mod Orders
 pub mod Bytes
 pub mod Line
 pub mod Slots
+pub mod Late
 pub mod Octets
 use mathlib.Core.Path.{_≡_}
 use Rattle.rules.specs.Unit.{freshUnit}
@@ -18,6 +19,7 @@ use Rattle.rules.specs.Promises.Sentences.Orders.{selecting, homing, mar
 use Rattle.rules.specs.Promises.Sentences.Bytes.{giving, storing, octetsOut, taking, nothingThere, spoiling, lastTaken, wholeBlock}
 use Rattle.rules.specs.Promises.Sentences.Line.{rising, falling}
 use Rattle.rules.specs.Promises.Sentences.Slots.{comingIn, goingOut, counting, ownTape}
+use Rattle.rules.specs.Promises.Sentences.Late.{lateStoring, lateKept, lateGone, lateNever}
 use Rattle.rules.specs.Promises.Sentences.Octets.{bits, counters, wholeReport}
 
 pub record SentencesHold : Type 0 where
@@ -67,6 +69,11 @@ pub record SentencesHold : Type 0 where
   pub cartridge-in : Hold comingIn
   pub cartridge-out : Hold goingOut
   pub counts : Hold counting
+  -- Late blocks
+  pub late-stored : Hold lateStoring
+  pub late-kept : Hold lateKept
+  pub late-gone : Hold lateGone
+  pub late-5 : Hold lateNever
   -- Octets
   pub bits : Hold bits
   pub counters : Hold counters

@@ -22,7 +22,7 @@ use Rattle.rules.specs.Unit.{Whole, driveAt, tapeAt}
 use Rattle.rules.specs.Refusal.{possible, short}
 use Rattle.rules.specs.Run.{World, after, run, turns, givenEach, takenTimes, freshWorld}
 use Rattle.rules.specs.Reach.{realChange, Gave, onlyIf, reached, given}
-use Rattle.rules.specs.Promises.Changes.{Accepted}
+use Rattle.rules.specs.Promises.Changes.{Accepted, blockAsks}
 use Rattle.rules.specs.Promises.Events.{joined}
 use Rattle.rules.specs.Promises.Runs.{command, report, online, offline}
 
@@ -50,7 +50,7 @@ pub record Ready (w : World) : Type 0 where
   pub idle : driveOf w .mode ≡ Idle
   pub calm : driveOf w .exception ≡ false
 
--- Its plug is open, and n blocks of 513 bytes leave the 1541 that WRITE asks for.
+-- Its plug is open, and n blocks of 513 bytes leave the 1541 that one more would ask for.
 pub record MayRecord (w : World) (n : ℕ) : Type 0 where
   pub ready : Ready w
   pub unplugged : driveOf w .protected ≡ false
@@ -101,7 +101,7 @@ passing (suc k) = command 160 ++ (report ++ passing k)
 abbrev pub BlockGiven : Type 0
 BlockGiven =
     (w : World) (b : List ℕ) → Works w → w .core .port .phase ≡ Rest → writes (driveOf w) ≡ true
-    → driveOf w .head + 1541 ≤ length (tapeOf w) → length b ≡ bodySize
+    → driveOf w .head + blockAsks (driveOf w .late) ≤ length (tapeOf w) → length b ≡ bodySize
     → tapeAt (run w (givenEach b) .lent) (w .core .port .selected) ≡ recorded (tapeOf w) (driveOf w .head) (blockRecord b)
 
 -- A whole block at the head is handed out as it stands, byte for byte.

@@ -73,10 +73,13 @@ element-copy-out-t11 c = search needs
 element-copy-out-t17 : tie.Need-element-copy-out-t17
 element-copy-out-t17 c = search needs
 
+element-copy-out-t14 : tie.Need-element-copy-out-t14
+element-copy-out-t14 c = search needs
+
 returns : tie.Need-returns
 unfolding driveOf
 returns c =
-    let underruns = c .before .before .before in
+    let underruns = c .before .before .before .before in
     let errors = underruns .before .before .before in
     let latched = errors .before .before .before in
     let mode = latched .before in
@@ -120,4 +123,5 @@ drive-of-spec =
     element-copy-out-t21
     element-copy-out-t11
     element-copy-out-t17
+    element-copy-out-t14
     returns)

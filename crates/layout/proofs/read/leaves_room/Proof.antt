@@ -21,9 +21,6 @@ of-four-requires c κs = search needs
 element-copy-out-result : tie.Need-element-copy-out-result
 element-copy-out-result c = search needs
 
-element-copy-out-result-2 : tie.Need-element-copy-out-result-2
-element-copy-out-result-2 c = search needs
-
 element-copy-out-of-two : tie.Need-element-copy-out-of-two
 element-copy-out-of-two c = search needs
 
@@ -34,7 +31,7 @@ of-two-requires : tie.Need-of-two-requires
 of-two-requires c κs = search needs
 
 returns : tie.Need-returns
-returns c = rw (c .of-two .ensures, c .before .before .before .before .before .of-four .ensures)
+returns c = rw (c .of-two .ensures, c .before .before .before .before .of-four .ensures)
 
 pub leaves-room-spec : {M : Type 1} → statement M
 leaves-room-spec =
@@ -46,7 +43,6 @@ leaves-room-spec =
     element-copy-out-of-four-4
     of-four-requires
     element-copy-out-result
-    element-copy-out-result-2
     element-copy-out-of-two
     element-copy-out-of-two-2
     of-two-requires

@@ -48,11 +48,8 @@ rests-requires-3 c κs = search needs
 enum-told-5 : tie.Need-enum-told-5
 enum-told-5 c = search needs
 
-in-mode-requires : tie.Need-in-mode-requires
-in-mode-requires c κs = search needs
-
-rests-requires-4 : tie.Need-rests-requires-4
-rests-requires-4 c κs = search needs
+write-requires : tie.Need-write-requires
+write-requires c κs = search needs
 
 enum-told-6 : tie.Need-enum-told-6
 enum-told-6 c = search needs
@@ -98,11 +95,14 @@ returns-4 c = rw (c .before .before .erase .ensures, c .before .before .before .
 returns-5 : tie.Need-returns-5
 returns-5 c = rw (c .rests3 .ensures, c .before .rewind2 .ensures, c .before .before .enum-told4 .given .1)
 
-returns-6 : tie.Need-returns-6
-returns-6 c = rw (c .rests4 .ensures, c .before .in-mode .ensures, c .before .before .enum-told5 .given .1)
-
 same-length-2 : tie.Need-same-length-2
 same-length-2 c = search needs
+
+returns-6 : tie.Need-returns-6
+returns-6 c = rw (c .write .ensures, c .before .before .enum-told5 .given .1)
+
+same-length-3 : tie.Need-same-length-3
+same-length-3 c = search needs
 
 returns-7 : tie.Need-returns-7
 unfolding pick
@@ -111,14 +111,14 @@ returns-7 c =
     let has = rw e at (c .before .before .before .before .before .before .before .pre) in
     rw e (rw has at (c .before .before .write-mark .ensures))
 
-same-length-3 : tie.Need-same-length-3
-same-length-3 c = search needs
+same-length-4 : tie.Need-same-length-4
+same-length-4 c = search needs
 
 returns-8 : tie.Need-returns-8
 returns-8 c = rw (c .read .ensures, c .before .before .enum-told7 .given .1)
 
-same-length-4 : tie.Need-same-length-4
-same-length-4 c = search needs
+same-length-5 : tie.Need-same-length-5
+same-length-5 c = search needs
 
 returns-9 : tie.Need-returns-9
 returns-9 c = rw (c .read-mark .ensures, c .before .before .enum-told8 .given .1)
@@ -145,8 +145,7 @@ carry-out-spec =
     rewind-requires-2
     rests-requires-3
     enum-told-5
-    in-mode-requires
-    rests-requires-4
+    write-requires
     enum-told-6
     write-mark-requires
     enum-told-7
@@ -161,11 +160,12 @@ carry-out-spec =
     same-length
     returns-4
     returns-5
-    returns-6
     same-length-2
-    returns-7
+    returns-6
     same-length-3
-    returns-8
+    returns-7
     same-length-4
+    returns-8
+    same-length-5
     returns-9
     returns-10)

@@ -12,7 +12,7 @@ use Rattle.rules.specs.declared.answer.Lines.{Lines}
 use Rattle.rules.specs.Run.{World}
 use Rattle.rules.specs.Promises.Events.{joined, command}
 use Rattle.rules.specs.Promises.Sentences.Form.{says, R, RD, E, Case, row}
-use Rattle.rules.specs.Promises.Sentences.Scene.{up, low, none, all, cni, eom, ude, bnl, fil, ill, ndt, also, allBut, full, quiet, loud, ramp}
+use Rattle.rules.specs.Promises.Sentences.Scene.{up, low, none, all, cni, eom, ude, bnl, fil, ill, ndt, also, allBut, full, quiet, loud, late, ramp}
 use Rattle.rules.specs.Promises.Sentences.Scene.{block, odd, lead, oldOctets, oldStaging, port, among, scene, gone, free, plugged}
 
 -- A command at Rest: level, code, record and tape before; answer and lines; record and tape after.
@@ -82,13 +82,18 @@ plug =
     stops up (quiet plugged 9 Idle) (loud plugged 9 Idle none) (34 ∷ 64 ∷ 96 ∷ [])
     ++ stops low (quiet plugged 5 Idle) (loud plugged 5 Idle none) (34 ∷ [])
 
--- 7. WRITE needs head + 1541 <= L, WRITE FILE MARK head + 1 <= L; else EOM, and the mode becomes Idle.
+-- 7. WRITE needs head + 514 <= L, WRITE FILE MARK head + 1 <= L; else EOM, and the mode becomes Idle.
+-- WRITE with head + 1541 <= L allows no late block, and any other one two, whatever the room.
 abbrev pub room : List Case
 room =
     told up 64 (quiet free 5 Idle) (ramp 1546 3) 0 R (quiet free 5 Writing) (ramp 1546 3)
-    ∷ told up 64 (quiet free 5 Idle) (ramp 1545 3) 1 E (loud free 5 Idle eom) (ramp 1545 3)
+    ∷ told up 64 (quiet free 5 Idle) (ramp 1545 3) 0 R (late 2 5) (ramp 1545 3)
+    ∷ told up 64 (quiet free 5 Idle) (ramp 519 3) 0 R (late 2 5) (ramp 519 3)
+    ∷ told up 64 (quiet free 5 Idle) (ramp 518 3) 1 E (loud free 5 Idle eom) (ramp 518 3)
     ∷ told up 64 (quiet free 0 Idle) (ramp 1541 3) 0 R (quiet free 0 Writing) (ramp 1541 3)
-    ∷ told up 64 (quiet free 0 Idle) (ramp 1540 3) 1 E (loud free 0 Idle eom) (ramp 1540 3)
+    ∷ told up 64 (quiet free 0 Idle) (ramp 1540 3) 0 R (late 2 0) (ramp 1540 3)
+    ∷ told up 64 (quiet free 0 Idle) (ramp 514 3) 0 R (late 2 0) (ramp 514 3)
+    ∷ told up 64 (quiet free 0 Idle) (ramp 513 3) 1 E (loud free 0 Idle eom) (ramp 513 3)
     ∷ told up 96 (quiet free 9 Idle) odd 1 E (loud free 9 Idle eom) odd
     ∷ told up 96 (quiet free 9 Writing) odd 1 E (loud free 9 Idle eom) odd
     ∷ told up 96 (quiet free 10 Writing) odd 1 E (loud free 10 Idle eom) odd

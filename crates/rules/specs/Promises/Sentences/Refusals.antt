@@ -64,6 +64,7 @@ plugAlone =
       loaded = false;
       protected = true;
       mode = Idle;
+      late = 0;
       exception = false;
       latched = none;
     }

@@ -78,9 +78,9 @@ isPlugged gone = false
 isPlugged free = false
 isPlugged plugged = true
 
--- A drive's record in full; with both counters above 255; without EXCEPTION and without a bit; with EXCEPTION.
-abbrev pub full : Slot → ℕ → Mode → Bool → Latched → ℕ → ℕ → Drive
-full s h m e k a b =
+-- A drive's record in full; with no late block; with both counters above 255; without EXCEPTION and without a bit; with EXCEPTION.
+abbrev pub recordOf : Slot → ℕ → Mode → ℕ → Bool → Latched → ℕ → ℕ → Drive
+recordOf s h m n e k a b =
     record {
       head = h;
       errors = record { 0 = a };
@@ -88,15 +88,29 @@ full s h m e k a b =
       loaded = isIn s;
       protected = isPlugged s;
       mode = m;
+      late = n;
       exception = e;
       latched = k;
     }
+
+abbrev pub full : Slot → ℕ → Mode → Bool → Latched → ℕ → ℕ → Drive
+full s h m e k a b = recordOf s h m 0 e k a b
 
 abbrev pub quiet : Slot → ℕ → Mode → Drive
 quiet s h m = full s h m false none 258 515
 
 abbrev pub loud : Slot → ℕ → Mode → Latched → Drive
 loud s h m k = full s h m true k 258 515
+
+-- In this mode with so many late blocks allowed; in a late WRITE, without EXCEPTION and with it.
+abbrev pub allows : Mode → ℕ → Drive
+allows m n = recordOf free 5 m n false none 258 515
+
+abbrev pub late : ℕ → ℕ → Drive
+late n h = recordOf free h Writing n false none 258 515
+
+abbrev pub loudLate : ℕ → ℕ → Latched → Drive
+loudLate n h k = recordOf free h Writing n true k 258 515
 
 -- n bytes that count up from k, none like its neighbours; a block of such bytes.
 abbrev pub ramp : ℕ → ℕ → List ℕ
