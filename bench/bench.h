@@ -52,6 +52,7 @@ size_t make_count(struct input *in, size_t times, bool less);
 size_t make_mark(struct input *in, size_t times, bool less);
 size_t make_erase(struct input *in, size_t times, bool less);
 size_t make_mixed(struct input *in, size_t times, bool less);
+size_t make_late(struct input *in, size_t times, bool less);
 size_t make_bad(struct input *in, size_t times, bool less);
 size_t make_written_on(struct input *in, size_t times, bool less);
 size_t make_read_on(struct input *in, size_t times, bool less);

@@ -18,6 +18,7 @@ static const struct row rows[] = {
     {"ERASE of 16 MiB, each KiB", LONGEST, 8, BLOCKS, make_erase, false, LONGEST / 1024, 1.2, 1.2},
 };
 static const struct row mixed = {"a mixed trace", 16384, 200, EMPTY, make_mixed, false, 1, 0, 0};
+static const struct row late = {"the end of a tape", BLOCK_ROOM, 200, EMPTY, make_late, false, 1, 0, 0};
 static const struct row bad = {"a bad record", 16384, 200, BAD, make_bad, false, 1, 0, 0};
 enum { ROWS = sizeof rows / sizeof rows[0] };
 
@@ -88,8 +89,9 @@ int main(int count, char **words) {
     struct times first[2];
     for (size_t i = 0; i < ROWS; i++) agree(rows[i], part);
     agree(mixed, part);
+    agree(late, part);
     agree(bad, part);
-    printf("Answers, bytes, lines and tapes agree in all %d rows, on a mixed trace and at a bad record.\n\n", ROWS);
+    printf("Answers, bytes, lines and tapes agree in all %d rows, on a mixed trace, at the end of a tape and at a bad record.\n\n", ROWS);
     table(smoke ? 1 : 9, part, first);
     headroom(first);
     growth(smoke);

@@ -135,6 +135,26 @@ size_t make_mixed(struct input *in, size_t times, bool less) {
     return (in->used - before) / 2;
 }
 
+// A trial closed past early warning, on a tape of three blocks and two bytes: EOM, two late blocks, EOM, the mark, and all
+// of it read back.
+size_t make_late(struct input *in, size_t times, bool less) {
+    for (size_t i = 0; i < times && !less; i++) {
+        add(in, COMMAND, TO_WRITE);
+        add_bytes(in, GIVE, BODY);
+        add_report(in);
+        add(in, COMMAND, TO_WRITE);
+        add_bytes(in, GIVE, 2 * BODY);
+        add_report(in);
+        add(in, COMMAND, MARK);
+        add(in, COMMAND, TO_BOT);
+        add(in, COMMAND, TO_READ);
+        add_bytes(in, TAKE, 3 * BODY);
+        add_report(in);
+        add(in, COMMAND, TO_BOT);
+    }
+    return times;
+}
+
 // A bad record, met behind a block, by an order and by a search; each report tells of it.
 size_t make_bad(struct input *in, size_t times, bool less) {
     for (size_t i = 0; i < times && !less; i++) {

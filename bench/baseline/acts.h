@@ -4,12 +4,16 @@
 
 #include "parts.h"
 
-// The 512th byte: the block is recorded where there is room.
+// The 512th byte: the block is recorded where there is room; the last late one ends the WRITE.
 static inline bool store(struct unit *u, size_t d, struct tape t) {
+    uint8_t late = u->late[d];
+    size_t need = late ? LATE_ROOM : BLOCK_ROOM;
     at_phase(u, REST, 0);
-    if (!room(u->head[d], WRITE_ROOM, t.length)) return no_room(u, d);
+    if (!room(u->head[d], need, t.length)) return no_room(u, d);
     record_block(u, d, t);
-    return room(u->head[d], WRITE_ROOM, t.length) ? false : no_room(u, d);
+    if (late == 1 || !room(u->head[d], need, t.length)) return no_room(u, d);
+    if (late) u->late[d] = late - 1;
+    return false;
 }
 
 // A byte given; the place is 0 at Rest.

@@ -73,8 +73,9 @@ static bool carry_out(struct unit *u, size_t d, struct tape t, uint8_t code) {
     case SELECT_3: u->selected = 3; return false;
     case ERASE: memset(t.bytes, 0, t.length); u->head[d] = 0; return false;
     case WRITE:
-        if (!room(u->head[d], WRITE_ROOM, t.length)) return no_room(u, d);
+        if (!room(u->head[d], LATE_ROOM, t.length)) return no_room(u, d);
         u->flags[d] |= WRITING;
+        u->late[d] = room(u->head[d], BLOCK_ROOM, t.length) ? 0 : LATE_BLOCKS;
         return false;
     case READ: u->flags[d] |= READING; return edge(u, d, t);
     case READ_STATUS: return report(u, d);

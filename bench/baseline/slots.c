@@ -3,7 +3,8 @@
 
 static void power_on(struct unit *u, size_t d) {
     u->head[d] = 0;
-    u->flags[d] = (u->flags[d] & (LOADED | PROTECTED)) | EXCEPTION;
+    idle(u, d);
+    u->flags[d] |= EXCEPTION;
     u->latched0[d] = 0;
     u->latched1[d] = POR;
     u->errors[d] = u->underruns[d] = 0;
@@ -24,6 +25,7 @@ void baseline_fresh(struct unit *u) {
 
 static bool pull(struct unit *u, size_t d) {
     u->head[d] = 0;
+    idle(u, d);
     u->flags[d] = 0;
     if (d == u->selected && u->phase != STATUS) at_phase(u, REST, 0);
     return raise0(u, d, CNI);

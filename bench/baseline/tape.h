@@ -37,7 +37,10 @@ static inline bool raise1(struct unit *u, size_t d, uint8_t bit) {
     return true;
 }
 
-static inline void idle(struct unit *u, size_t d) { u->flags[d] &= (uint8_t)~BUSY; }
+static inline void idle(struct unit *u, size_t d) {
+    u->flags[d] &= (uint8_t)~BUSY;
+    u->late[d] = 0;
+}
 
 // No room: EOM makes the drive Idle.
 static inline bool no_room(struct unit *u, size_t d) {

@@ -15,6 +15,16 @@ static inline bool flags_clash(const struct unit *u) {
     return ((((plug | writes | reads) & ~w) | (writes & plug)) & 0x01010101u) != 0;
 }
 
+// Whether a drive allows more than two late blocks, or any while it is not Writing; mostly none of the four does.
+static inline bool late_clashes(const struct unit *u) {
+    uint32_t w;
+    memcpy(&w, u->late, sizeof w);
+    if (w == 0) return false;
+    for (size_t d = 0; d < DRIVES; d++)
+        if (u->late[d] > (u->flags[d] & WRITING ? LATE_BLOCKS : 0)) return true;
+    return false;
+}
+
 static inline bool phase_clashes(const struct unit *u) {
     switch (u->phase) {
     case REST: return false;
@@ -27,7 +37,7 @@ static inline bool phase_clashes(const struct unit *u) {
 // Answer 5: a record that cannot be.
 static inline bool impossible(const struct unit *u) {
     return u->selected >= DRIVES || above(u->head[0], u->head[1], u->head[2], u->head[3]) || flags_clash(u) ||
-           phase_clashes(u);
+           late_clashes(u) || phase_clashes(u);
 }
 
 // Answer 4: no event at all.

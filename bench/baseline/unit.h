@@ -6,7 +6,10 @@
 #include <stddef.h>
 #include <stdint.h>
 
-enum { DRIVES = 4, BODY = 512, BLOCK = 513, WRITE_ROOM = 1541, OCTETS = 6, LONGEST = 16777216 };
+enum { DRIVES = 4, BODY = 512, BLOCK = 513, OCTETS = 6, LONGEST = 16777216 };
+
+// The room that a block asks for, and a late one; and how many late blocks a WRITE may take.
+enum { BLOCK_ROOM = 1541, LATE_ROOM = 514, LATE_BLOCKS = 2 };
 
 // The answers, by their numbers.
 enum { TAKEN, RAISED, OUT_OF_STEP, WRONG_SLOT, MALFORMED, IMPOSSIBLE, TOO_LONG };
@@ -27,6 +30,7 @@ enum { ST1 = 0x80, ILL = 0x40, NDT = 0x20, BOM = 0x08, POR = 0x01 };
 struct unit {
     size_t head[DRIVES];
     uint8_t flags[DRIVES];
+    uint8_t late[DRIVES]; // late blocks still allowed
     uint8_t latched0[DRIVES];
     uint8_t latched1[DRIVES];
     uint16_t errors[DRIVES];
