@@ -1,7 +1,7 @@
 //! Bytes that the host gives and takes.
 
 use crate::answers::Done;
-use crate::state::{Phase, Unit, BLOCK, ROOM};
+use crate::state::{Phase, Unit, BLOCK, LATE_ROOM, ROOM};
 use crate::tape::{found, Found, BLOCK_RECORD, DATA};
 
 impl Unit {
@@ -20,22 +20,25 @@ impl Unit {
         self.store_block(tape)
     }
 
-    /// The staged block goes to tape if there is room for it. Says if the room ended.
+    /// The staged block goes to tape if there is room for it. Says if it was the last.
     fn store_block(&mut self, tape: &mut [u8]) -> bool {
         let at = self.at();
         let drive = &mut self.drives[at];
         let length = tape.len() as u64;
-        if drive.head + ROOM <= length {
+        let late = drive.late > 0;
+        let room = if late { LATE_ROOM } else { ROOM };
+        if drive.head + room <= length {
             let mut record = [DATA; BLOCK_RECORD as usize];
             record[1..].copy_from_slice(&self.staging);
             drive.record(tape, &record);
+            drive.late -= late as u8;
         }
         // The same test serves twice: no room for this block, or none for the next.
-        let full = drive.head + ROOM > length;
-        if full {
+        let last = drive.head + room > length || late && drive.late == 0;
+        if last {
             drive.end_of_medium();
         }
-        full
+        last
     }
 
     /// A byte taken by the host.

@@ -1,6 +1,6 @@
 //! Command octets: the tests they pass, and what they do.
 
-use crate::state::{Drive, Mode, Phase, Unit, ROOM};
+use crate::state::{Drive, Mode, Phase, Unit, LATE_BLOCKS, LATE_ROOM, ROOM};
 use crate::tape::MARK;
 
 /// The known codes.
@@ -66,7 +66,8 @@ impl Command {
     /// How much tape must be left ahead of the head.
     fn room(self) -> u64 {
         match self {
-            Write => ROOM,
+            // Where this is all, the WRITE is a late one.
+            Write => LATE_ROOM,
             WriteFileMark => 1,
             _ => 0,
         }
@@ -135,14 +136,14 @@ impl Unit {
                 tape.fill(0);
                 drive.head = 0;
             }
-            Write => drive.mode = Mode::Writing,
+            Write => drive.begin_writing(tape.len() as u64),
             Read => {
                 drive.mode = Mode::Reading;
                 return drive.edge_check(tape);
             }
             WriteFileMark => {
                 drive.record(tape, &[MARK]);
-                drive.mode = Mode::Idle;
+                drive.finish();
             }
             ReadFileMark => {
                 drive.read_file_mark(tape);
@@ -158,6 +159,12 @@ impl Unit {
 }
 
 impl Drive {
+    /// WRITE: an ordinary one, or where the room for that is gone a late one.
+    fn begin_writing(&mut self, length: u64) {
+        self.mode = Mode::Writing;
+        self.late = if self.head + ROOM <= length { 0 } else { LATE_BLOCKS };
+    }
+
     /// Raises EXCEPTION for a command that is not carried out, and latches why.
     fn object(&mut self, objection: Objection) {
         self.exception = true;

@@ -25,6 +25,8 @@ mod bad_records;
 #[cfg(test)]
 mod easy_to_get_wrong;
 #[cfg(test)]
+mod late_blocks;
+#[cfg(test)]
 mod runs_to_check;
 #[cfg(test)]
 mod set_records;

@@ -26,7 +26,7 @@ impl Drive {
     /// What the falling level does to the selected drive. Says if EXCEPTION was raised.
     fn close(&mut self, tape: &mut [u8]) -> bool {
         if self.exception {
-            self.mode = Mode::Idle;
+            self.finish();
             return false;
         }
         if !self.loaded {
@@ -39,7 +39,7 @@ impl Drive {
             }
             self.record(tape, &[MARK]);
         }
-        self.mode = Mode::Idle;
+        self.finish();
         self.head = 0;
         false
     }

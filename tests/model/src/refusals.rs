@@ -1,6 +1,6 @@
 //! What is refused: records that cannot be, and events that come at the wrong time or place.
 
-use crate::state::{Mode, Phase, Unit, BLOCK, LONGEST};
+use crate::state::{Mode, Phase, Unit, BLOCK, LATE_BLOCKS, LONGEST};
 use crate::Event;
 
 impl Unit {
@@ -20,6 +20,8 @@ impl Unit {
                 drive.head > LONGEST
                     || (!drive.loaded && (drive.protected || drive.mode != Mode::Idle))
                     || (drive.protected && drive.mode == Mode::Writing)
+                    || drive.late > LATE_BLOCKS
+                    || (drive.late > 0 && drive.mode != Mode::Writing)
             })
     }
 

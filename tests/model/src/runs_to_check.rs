@@ -74,10 +74,72 @@ fn l_1541_one_block_is_taken_then_88_00() {
 }
 
 #[test]
-fn l_1540_write_gives_88_88_at_once() {
+fn l_1540_write_is_taken_00_88_two_blocks_then_88_00() {
     let mut script = loaded(tape(1540, &[]), false);
+    assert_eq!(script.command(WRITE).answer, Answer::Taken);
+    assert_eq!(two(&mut script), [0x00, 0x88]);
+    assert_eq!(script.give_block(0x10).answer, Answer::Taken);
+    assert_eq!(script.give_block(0x20).answer, Answer::Exception);
+    assert_eq!(script.unit.drives[0].head, 1026);
+    assert_eq!(script.tapes[0][513..516], [0x01, 0x20, 0x21]);
+    assert_eq!(two(&mut script), [0x88, 0x00]);
+}
+
+#[test]
+fn l_1540_write_again_after_eom_takes_one_more_block() {
+    let mut script = loaded(tape(1540, &[]), false);
+    for (answer, head) in [(Answer::Taken, 513), (Answer::Exception, 1026)] {
+        assert_eq!(script.record_block(0x10).answer, answer);
+        assert_eq!(script.unit.drives[0].head, head);
+    }
+    assert_eq!(two(&mut script), [0x88, 0x00]);
+    assert_eq!(script.command(WRITE).answer, Answer::Taken);
+    assert_eq!(script.give_block(0x20).answer, Answer::Exception);
+    assert_eq!(script.unit.drives[0].head, 1539);
+    assert_eq!(two(&mut script), [0x88, 0x00]);
+    assert_eq!(script.command(WRITE).answer, Answer::Exception);
+    assert_eq!(two(&mut script), [0x88, 0x00]);
+}
+
+#[test]
+fn l_514_one_block_then_eom() {
+    let mut script = loaded(tape(514, &[]), false);
+    assert_eq!(script.command(WRITE).answer, Answer::Taken);
+    assert_eq!(script.give_block(0x10).answer, Answer::Exception);
+    assert_eq!(script.tapes[0][..2], [0x01, 0x10]);
+    assert_eq!(script.tapes[0][512..], [0x0F, 0x00]);
+    assert_eq!(two(&mut script), [0x88, 0x00]);
+}
+
+#[test]
+fn l_513_write_gives_88_88_at_once() {
+    let mut script = loaded(tape(513, &[]), false);
     assert_eq!(script.command(WRITE).answer, Answer::Exception);
     assert_eq!(two(&mut script), [0x88, 0x88]);
+}
+
+#[test]
+fn what_rigs_do_a_trial_closed_past_early_warning_and_read_back() {
+    let mut script = loaded(tape(1541, &[]), false);
+    script.command(WRITE);
+    assert_eq!(script.give_block(0x10).answer, Answer::Exception);
+    assert_eq!(two(&mut script), [0x88, 0x00]);
+    assert_eq!(script.command(WRITE).answer, Answer::Taken);
+    for (first, answer, head) in [(0x20, Answer::Taken, 1026), (0x30, Answer::Exception, 1539)] {
+        assert_eq!(script.give_block(first).answer, answer);
+        assert_eq!(script.unit.drives[0].head, head);
+    }
+    assert_eq!(two(&mut script), [0x88, 0x00]);
+    assert_eq!(script.command(WRITE_FILE_MARK).answer, Answer::Taken);
+    assert_eq!((script.unit.drives[0].head, script.tapes[0][1539]), (1540, 0x02));
+    script.command(BOT);
+    script.command(READ);
+    for first in [0x10u8, 0x20, 0x30] {
+        (0..512u16).for_each(|n| {
+            assert_eq!(script.take().byte, Some(first.wrapping_add(n as u8)));
+        });
+    }
+    assert_eq!(two(&mut script), [0x81, 0x00]);
 }
 
 #[test]

@@ -4,6 +4,8 @@ use crate::commands::*;
 use crate::compare::script::Script;
 use crate::{Answer, Drive, Lines, Mode, Phase, Unit};
 
+const MODES: [Mode; 3] = [Mode::Idle, Mode::Writing, Mode::Reading];
+
 /// A bench whose selected drive is loaded, open, ONLINE up, without EXCEPTION.
 pub fn bench(length: usize, mode: Mode, head: u64) -> Script {
     let mut script = Script::on([vec![0; length], vec![], vec![], vec![]]);
@@ -72,6 +74,20 @@ fn answer_5_for_cartridge_plug_and_mode_of_any_drive() {
         assert!(set(true, true, Mode::Writing));
         assert!(!set(true, true, Mode::Reading) && !set(true, false, Mode::Writing));
         assert!(!refused(|unit| unit.drives[at].exception = true));
+    }
+}
+
+#[test]
+fn answer_5_for_late_blocks_of_any_drive() {
+    for (at, mode) in (0..4).flat_map(|at| MODES.map(|mode| (at, mode))) {
+        for late in 0..=255 {
+            let five = refused(|unit| {
+                let drive = &mut unit.drives[at];
+                *drive = Drive { loaded: true, mode, late, ..drive.clone() };
+            });
+            let most = if mode == Mode::Writing { 2 } else { 0 };
+            assert_eq!(five, late > most, "drive {at}, {mode:?}, {late}");
+        }
     }
 }
 

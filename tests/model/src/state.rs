@@ -2,8 +2,13 @@
 
 /// Bytes of data in a block.
 pub const BLOCK: u64 = 512;
-/// Room that WRITE and every block ask for: one block, and what is kept past early warning.
+/// Room that an ordinary WRITE and its blocks ask for: one block, and what is kept past early
+/// warning.
 pub const ROOM: u64 = 1541;
+/// Room that a late WRITE and its blocks ask for: one block, and one byte behind it.
+pub const LATE_ROOM: u64 = 514;
+/// Blocks that a late WRITE may take.
+pub const LATE_BLOCKS: u8 = 2;
 /// The longest tape, and so the furthest head.
 pub const LONGEST: u64 = 16_777_216;
 
@@ -47,6 +52,8 @@ pub struct Drive {
     pub protected: bool,
     pub head: u64,
     pub mode: Mode,
+    /// Late blocks still allowed; 0 outside a late WRITE.
+    pub late: u8,
     pub exception: bool,
     pub latched: Latched,
     pub errors: u16,
@@ -72,6 +79,7 @@ impl Drive {
             protected: false,
             head: 0,
             mode: Mode::Idle,
+            late: 0,
             exception: true,
             latched: Latched { por: true, ..Latched::default() },
             errors: 0,
@@ -84,9 +92,15 @@ impl Drive {
         *self = Drive { loaded: self.loaded, protected: self.protected, ..Drive::fresh() };
     }
 
-    /// Ends whatever transfer was going on and raises EXCEPTION.
-    pub(crate) fn stop(&mut self) {
+    /// Ends whatever transfer was going on; no late block is allowed after it.
+    pub(crate) fn finish(&mut self) {
         self.mode = Mode::Idle;
+        self.late = 0;
+    }
+
+    /// The same, and raises EXCEPTION.
+    pub(crate) fn stop(&mut self) {
+        self.finish();
         self.exception = true;
     }
 }

@@ -18,8 +18,8 @@ pub fn any_unit(random: &mut Random, tapes: &Tapes) -> Unit {
     // Part blocks are rare unless the mode is bent to them.
     if random.chance(950) {
         match unit.phase {
-            Phase::Taking(_) => set(&mut unit.drives[at], Mode::Writing),
-            Phase::Giving(_) => set(&mut unit.drives[at], Mode::Reading),
+            Phase::Taking(_) => set(random, &mut unit.drives[at], Mode::Writing),
+            Phase::Giving(_) => set(random, &mut unit.drives[at], Mode::Reading),
             _ => {}
         }
     }
@@ -27,10 +27,11 @@ pub fn any_unit(random: &mut Random, tapes: &Tapes) -> Unit {
 }
 
 /// A mode that the drive's cartridge allows.
-fn set(drive: &mut Drive, mode: Mode) {
+fn set(random: &mut Random, drive: &mut Drive, mode: Mode) {
     drive.loaded = true;
     drive.protected &= mode != Mode::Writing;
     drive.mode = mode;
+    drive.late = any_late(random, mode);
 }
 
 /// Numbers at the edges that matter, or any at all.
@@ -81,11 +82,13 @@ fn any_drive(random: &mut Random, length: u64) -> Drive {
     let protected = loaded && random.chance(200);
     let mode = random.pick(&[Mode::Idle, Mode::Writing, Mode::Reading]);
     let fits = loaded && !(protected && mode == Mode::Writing);
+    let mode = if fits || random.chance(10) { mode } else { Mode::Idle };
     Drive {
         loaded,
         protected: protected || random.chance(5),
         head,
-        mode: if fits || random.chance(10) { mode } else { Mode::Idle },
+        mode,
+        late: any_late(random, mode),
         exception: random.chance(250),
         latched,
         errors: random.pick(&[0, 1, 255, 256, 65_534, 65_535]),
@@ -93,8 +96,18 @@ fn any_drive(random: &mut Random, length: u64) -> Drive {
     }
 }
 
+/// Late blocks that fit the mode more often than not.
+fn any_late(random: &mut Random, mode: Mode) -> u8 {
+    match mode {
+        _ if random.chance(10) => random.pick(&[1, 2, 3, 4, 128, 255]),
+        Mode::Writing => random.pick(&[0, 1, 2]),
+        _ => 0,
+    }
+}
+
 /// Distances from a tape's end at which an answer changes.
-const EDGES: [u64; 12] = [0, 1, 2, 512, 513, 514, 1540, 1541, 1542, 2053, 2054, 2055];
+const EDGES: [u64; 16] =
+    [0, 1, 2, 512, 513, 514, 515, 1026, 1027, 1028, 1540, 1541, 1542, 2053, 2054, 2055];
 
 /// Four tapes of small lengths, with records, scraps of records, or anything on them.
 pub fn any_tapes(random: &mut Random) -> Tapes {

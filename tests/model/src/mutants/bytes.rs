@@ -49,11 +49,9 @@ fn one_short(scene: &Scene) -> bool {
 pub fn write_1540(scene: &mut Scene) {
     let at = scene.at();
     let edge = scene.commands(WRITE) && one_short(scene);
-    let before = scene.go_from();
-    if edge && scene.unit.drives[at].latched.eom && !before.drives[at].exception {
-        *scene.unit = before;
-        scene.unit.drives[at].mode = Mode::Writing;
-        scene.outcome.answer = Answer::Taken;
+    scene.go();
+    if edge && scene.outcome.answer == Answer::Taken {
+        scene.unit.drives[at].late = 0;
     }
 }
 
@@ -61,7 +59,8 @@ pub fn late_warning(scene: &mut Scene) {
     let before = scene.go_from();
     let at = scene.at();
     let moved = scene.unit.drives[at].head != before.drives[at].head;
-    if before.phase == Phase::Taking(511) && moved && one_short(scene) {
+    let ordinary = before.drives[at].late == 0;
+    if before.phase == Phase::Taking(511) && moved && ordinary && one_short(scene) {
         let head = scene.unit.drives[at].head;
         scene.unit.drives[at] = before.drives[at].clone();
         scene.unit.drives[at].head = head;

@@ -15,6 +15,8 @@ pub const NUMBER: Range<usize> = 4..12;
 /// Where drive 0 begins, and the bytes of a drive.
 pub const DRIVES: usize = 18;
 pub const DRIVE: usize = 32;
+/// Where in a drive the late blocks still allowed stand.
+pub const LATE: usize = 20;
 /// Where the staging block begins.
 pub const STAGING: usize = 146;
 
@@ -61,7 +63,7 @@ fn encode_drive(drive: &Drive, bytes: &mut Vec<u8>) {
     };
     let [loaded, protected, exception] =
         [drive.loaded, drive.protected, drive.exception].map(|bit| bit as u8);
-    bytes.extend([loaded, protected, 0, mode, 0, exception]);
+    bytes.extend([loaded, protected, 0, mode, drive.late, exception]);
     let Latched { cni, eom, ude, bnl, fil, ill, ndt, por } = drive.latched;
     bytes.extend([cni, eom, ude, bnl, fil, ill, ndt, por].map(|bit| bit as u8));
     bytes.extend([0; 2]);
@@ -160,11 +162,11 @@ impl Cursor<'_> {
         let (loaded, protected) = (self.bool()?, self.bool()?);
         self.unused::<1>()?;
         let mode = self.mode()?;
-        self.unused::<1>()?;
+        let [late] = self.take();
         let exception = self.bool()?;
         let latched = self.latched()?;
         self.unused::<2>()?;
-        Ok(Drive { loaded, protected, head, mode, exception, latched, errors, underruns })
+        Ok(Drive { loaded, protected, head, mode, late, exception, latched, errors, underruns })
     }
 }
 
@@ -199,6 +201,7 @@ fn drive_field(at: usize) -> String {
         16 => "loaded".into(),
         17 => "protected".into(),
         19 => "mode".into(),
+        LATE => "late blocks allowed".into(),
         21 => "EXCEPTION".into(),
         22..=29 => bits[at - 22].into(),
         _ => "unused".into(),
@@ -223,5 +226,5 @@ pub fn modes() -> Vec<usize> {
 
 /// Offsets of all bytes that no field has.
 pub fn unused() -> Vec<usize> {
-    in_drives(&[8, 9, 10, 11, 18, 20, 30, 31]).collect()
+    in_drives(&[8, 9, 10, 11, 18, 30, 31]).collect()
 }

@@ -78,6 +78,7 @@ fn every_field_stands_in_its_place() {
         assert_eq!(changes(|unit| unit.drives[at].protected = true), [(start + 17, 1)]);
         assert_eq!(changes(|unit| unit.drives[at].mode = Mode::Writing), [(start + 19, 1)]);
         assert_eq!(changes(|unit| unit.drives[at].mode = Mode::Reading), [(start + 19, 2)]);
+        assert_eq!(changes(|unit| unit.drives[at].late = 255), [(start + 20, 255)]);
         assert_eq!(changes(|unit| unit.drives[at].exception = false), [(start + 21, 0)]);
         assert_eq!(changes(|unit| unit.drives[at].latched.cni = true), [(start + 22, 1)]);
         assert_eq!(changes(|unit| unit.drives[at].latched.eom = true), [(start + 23, 1)]);
@@ -105,7 +106,7 @@ fn each_flaw_is_found() {
     }
     (0..=255).for_each(|byte| assert_eq!(with(0, byte).is_ok(), byte == 2));
     (0..=255).for_each(|byte| assert!(with(1, byte).is_ok()));
-    assert_eq!(unused().len(), 32);
+    assert_eq!(unused().len(), 28);
     for at in unused() {
         (1..=255).for_each(|byte| assert_eq!(with(at, byte), Err(Flaw::Unused), "{}", field(at)));
     }
@@ -119,5 +120,18 @@ fn each_flaw_is_found() {
     for at in modes() {
         (3..=255).for_each(|byte| assert_eq!(with(at, byte), Err(Flaw::Mode)));
         assert!((0..3).all(|byte| with(at, byte).is_ok()));
+    }
+}
+
+#[test]
+fn late_is_a_record_with_every_value_in_every_mode() {
+    for (drive, start) in [18, 50, 82, 114].into_iter().enumerate() {
+        for (mode, late) in (0..3).flat_map(|mode| (0..=255).map(move |late| (mode, late))) {
+            let mut bytes = encode(&Unit::fresh());
+            (bytes[start + 19], bytes[start + 20]) = (mode, late);
+            let unit = decode(&bytes).expect("it is a record");
+            assert_eq!(unit.drives.map(|drive| drive.late)[drive], late);
+            assert_eq!(field(start + 20), format!("drive {drive} late blocks allowed"));
+        }
     }
 }

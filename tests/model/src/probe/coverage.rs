@@ -2,8 +2,9 @@
 
 use crate::probe::codec::{self, Flaw};
 use crate::probe::frame::{Frame, Step};
-use crate::probe::happened::{faults, happened, FAULTS, HAPPENINGS};
+use crate::probe::happened::{happened, HAPPENINGS};
 use crate::probe::reply::{Reply, Stepped};
+use crate::probe::wrong::{faults, FAULTS};
 use std::collections::BTreeMap;
 
 /// Which answers can come to an event of each kind.

@@ -1,62 +1,12 @@
-//! Names for what an event did, and for what is wrong with a record.
+//! Names for what an event did, and for how it ended.
 
 use crate::commands::{Command, READ_FILE_MARK};
 use crate::probe::frame::Step;
+use crate::probe::late::{block, in_late_write};
 use crate::probe::reply::Stepped;
-use crate::state::{Drive, Mode, Phase, Unit, LONGEST};
+use crate::state::{Drive, Mode, Phase, Unit};
 use crate::Event;
 use std::cmp::Ordering;
-
-/// What can be wrong with a record, alone.
-pub const FAULTS: [&str; 13] = [
-    "selected above 3",
-    "head too far",
-    "no such place given",
-    "no such place taken",
-    "no such number of octets",
-    "part block given, not Writing",
-    "part block taken, not Reading",
-    "plug without a cartridge",
-    "mode without a cartridge",
-    "Writing on a protected cartridge",
-    "head too far, not selected",
-    "mode without a cartridge, not selected",
-    "Writing on a protected cartridge, not selected",
-];
-
-/// All that is wrong with a record.
-pub fn faults(unit: &Unit) -> Vec<&'static str> {
-    let mut faults = Vec::new();
-    let mut fault = |wrong: bool, name| {
-        if wrong {
-            faults.push(name);
-        }
-    };
-    let mode = unit.drives.get(unit.selected.min(4) as usize).map(|drive| drive.mode);
-    fault(mode.is_none(), FAULTS[0]);
-    match unit.phase {
-        Phase::Rest => {}
-        Phase::Taking(n) => {
-            fault(n == 0 || n > 511, FAULTS[2]);
-            fault(mode.is_some_and(|mode| mode != Mode::Writing), FAULTS[5]);
-        }
-        Phase::Giving(n) => {
-            fault(n == 0 || n > 511, FAULTS[3]);
-            fault(mode.is_some_and(|mode| mode != Mode::Reading), FAULTS[6]);
-        }
-        Phase::Status(k) => fault(k == 0 || k > 6, FAULTS[4]),
-    }
-    for (at, drive) in unit.drives.iter().enumerate() {
-        let own = unit.selected == at as u64;
-        let name = |place: usize, other: usize| FAULTS[if own { place } else { other }];
-        fault(drive.head > LONGEST, name(1, 10));
-        fault(!drive.loaded && drive.protected, FAULTS[7]);
-        fault(!drive.loaded && drive.mode != Mode::Idle, name(8, 11));
-        let writing = drive.mode == Mode::Writing;
-        fault(drive.loaded && drive.protected && writing, name(9, 12));
-    }
-    faults
-}
 
 /// UDE with BNL, and what UDE alone tells of.
 const BNL: &str = "UDE and BNL";
@@ -67,12 +17,13 @@ const NO_DATA: &str = "UDE, end of data";
 const A_MARK: &str = "UDE, a mark";
 
 /// What events can do, and how each can end.
-pub const HAPPENINGS: [(&str, &[&str]); 27] = [
+pub const HAPPENINGS: [(&str, &[&str]); 44] = [
     ("SELECT", &["taken", "ILL"]),
     ("BOT", &["taken", "ILL", "CNI"]),
     ("ERASE", &["taken", "ILL", "CNI", "EXCEPTION alone"]),
     ("INITIALIZATION", &["taken", "ILL", "CNI"]),
     ("WRITE", &["taken", "ILL", "CNI", "EXCEPTION alone", "EOM"]),
+    ("late WRITE", &["taken"]),
     ("WRITE FILE MARK", &["taken", "ILL", "CNI", "EXCEPTION alone", "EOM"]),
     ("READ", &["taken", "ILL", "CNI", "FIL", "NDT", BNL, LONG, ABOVE]),
     ("READ FILE MARK", &["ILL", "CNI", "FIL", "NDT", BNL, LONG, ABOVE]),
@@ -82,6 +33,14 @@ pub const HAPPENINGS: [(&str, &[&str]); 27] = [
     ("byte of a block given", &["taken"]),
     ("block recorded", &["taken", "EOM"]),
     ("block not recorded", &["EOM"]),
+    ("first late block recorded", &["taken"]),
+    ("first late block recorded, no room for another", &["EOM"]),
+    ("first late block recorded, room for an ordinary one", &["taken"]),
+    ("second late block recorded, room for another", &["EOM"]),
+    ("second late block recorded, no room for another", &["EOM"]),
+    ("second late block recorded, room for an ordinary one", &["EOM"]),
+    ("late block not recorded", &["EOM"]),
+    ("block not recorded, room for a late one", &["EOM"]),
     ("octet", &["taken"]),
     ("first byte of a block", &["taken", "FIL", "NDT", BNL, LONG, ABOVE]),
     ("byte inside a block", &["taken", BNL, LONG, ABOVE, AT_END, NO_DATA, A_MARK]),
@@ -95,6 +54,14 @@ pub const HAPPENINGS: [(&str, &[&str]); 27] = [
     ("cartridge out", &["CNI"]),
     ("error", &["taken"]),
     ("underrun", &["taken"]),
+    ("byte of a late block given", &["taken"]),
+    ("READ STATUS in a late WRITE", &["taken"]),
+    ("WRITE FILE MARK in a late WRITE", &["taken", "ILL", "EOM"]),
+    ("any other order in a late WRITE", &["ILL"]),
+    ("ONLINE dropped in a late WRITE, a mark recorded", &["taken"]),
+    ("ONLINE dropped in a late WRITE", &["taken", "EOM"]),
+    ("RESET in a late WRITE", &["POR"]),
+    ("cartridge out in a late WRITE", &["CNI"]),
 ];
 
 /// What an event that was taken did, and how it ended.
@@ -109,28 +76,29 @@ pub fn happened(
         Event::CartridgeOut(at) => at,
         _ => before.selected as usize,
     };
+    let (old, new) = (&before.drives[at], &after.drives[at]);
     let what = match event {
-        Event::Command(READ_FILE_MARK) if after.drives[at].head > before.drives[at].head + 1 => {
+        Event::Command(READ_FILE_MARK) if new.head > old.head + 1 => {
             "READ FILE MARK, blocks passed"
         }
+        Event::Command(_) if new.late > old.late => "late WRITE",
         Event::Command(octet) => Command::of(octet).map_or("unknown code", order),
         Event::Give(_) if before.phase != Phase::Taking(511) => "byte of a block given",
-        Event::Give(_) if before.drives[at].head != after.drives[at].head => "block recorded",
-        Event::Give(_) => "block not recorded",
+        Event::Give(_) => block(old, new, step.tapes[at].length.into()),
         Event::Take => taken(before.phase, stepped.result[1] == 1),
         Event::OnlineRaised => "ONLINE raised",
         Event::OnlineDropped if !before.online => "low level repeated",
-        Event::OnlineDropped => dropped(&before.drives[at], stepped.result[0]),
+        Event::OnlineDropped => dropped(old, stepped.result[0]),
         Event::Reset => "RESET",
         Event::CartridgeIn { .. } => "cartridge in",
         Event::CartridgeOut(_) => "cartridge out",
         Event::Error(_) => "error",
         Event::Underrun(_) => "underrun",
     };
-    let ended = ending(&before.drives[at], &after.drives[at], stepped.result[0]);
-    match ended {
-        "UDE" => (what, cause(step, stepped, at, after.drives[at].head)),
-        _ => (what, ended),
+    let what = if old.late > 0 { in_late_write(what) } else { what };
+    match ending(old, new, stepped.result[0]) {
+        "UDE" => (what, cause(step, stepped, at, new.head)),
+        ended => (what, ended),
     }
 }
 
@@ -198,22 +166,5 @@ fn ending(before: &Drive, after: &Drive, answer: u8) -> &'static str {
         Some((_, _, name)) => name,
         None if bits.iter().any(|(old, _, _)| *old) => "a bit that was latched",
         None => "EXCEPTION alone",
-    }
-}
-
-#[cfg(test)]
-mod tests {
-    use super::*;
-    use crate::compare::random::Random;
-    use crate::compare::records::{any_tapes, any_unit};
-
-    #[test]
-    fn a_record_is_impossible_exactly_where_something_is_wrong_with_it() {
-        let mut random = Random::new(31);
-        let tapes = any_tapes(&mut random);
-        for _ in 0..100_000 {
-            let unit = any_unit(&mut random, &tapes);
-            assert_eq!(unit.impossible(), !faults(&unit).is_empty(), "{unit:?}");
-        }
     }
 }

@@ -6,12 +6,14 @@ pub mod coverage;
 pub mod frame;
 pub mod generate;
 mod happened;
+mod late;
 pub mod mutants;
 pub mod reply;
 pub mod report;
 pub mod runner;
 pub mod shrink;
 pub mod tally;
+mod wrong;
 
 #[cfg(test)]
 mod codec_tests;

@@ -11,6 +11,8 @@ use crate::state::{Drive, Latched, Mode, Phase, Unit, LONGEST};
 pub struct Setting {
     pub unit: Unit,
     pub tapes: [Lent; 4],
+    /// Late blocks that the selected drive gets wherever it is made to write.
+    pub late: u8,
 }
 
 /// Something done to the selected drive: its mode, the phase, and the event.
@@ -110,6 +112,7 @@ pub fn drive(random: &mut Random) -> Drive {
     let fitting = if protected { 2 } else { 3 };
     let bits = random.number();
     let bit = |place: u32| bits >> place & 3 == 0;
+    let mode = if loaded { random.pick(&modes[..fitting]) } else { Idle };
     Drive {
         loaded,
         protected,
@@ -118,7 +121,8 @@ pub fn drive(random: &mut Random) -> Drive {
             1 => random.pick(&[1, 512, 513, 514, LONGEST - 1, LONGEST]),
             _ => random.among(0..5000) as u64,
         },
-        mode: if loaded { random.pick(&modes[..fitting]) } else { Idle },
+        mode,
+        late: fitting_late(mode, some_late(random)),
         exception: bit(0),
         latched: Latched {
             cni: bit(2),
@@ -132,6 +136,20 @@ pub fn drive(random: &mut Random) -> Drive {
         },
         errors: count(random),
         underruns: count(random),
+    }
+}
+
+/// Late blocks as a drive that is Writing can have them.
+pub fn some_late(random: &mut Random) -> u8 {
+    random.pick(&[0, 0, 1, 2])
+}
+
+/// So many in Writing, none in another mode.
+pub fn fitting_late(mode: Mode, late: u8) -> u8 {
+    if mode == Writing {
+        late
+    } else {
+        0
     }
 }
 
@@ -155,7 +173,8 @@ impl Setting {
             octets: std::array::from_fn(|_| random.byte()),
             drives: std::array::from_fn(|_| drive(random)),
         };
-        Setting { unit, tapes: std::array::from_fn(|_| scrap(random)) }
+        let tapes = std::array::from_fn(|_| scrap(random));
+        Setting { unit, tapes, late: some_late(random) }
     }
 
     /// The place of the selected drive; of drive 0 where the number is too large.
@@ -176,8 +195,10 @@ impl Setting {
     /// The selected drive in a mode with the cartridge that it asks for, no EXCEPTION, ONLINE up.
     pub fn go(&mut self, mode: Mode) {
         self.unit.online = true;
+        let late = fitting_late(mode, self.late);
         let drive = self.drive();
-        *drive = Drive { loaded: true, protected: false, mode, exception: false, ..drive.clone() };
+        let open = Drive { loaded: true, protected: false, ..drive.clone() };
+        *drive = Drive { mode, late, exception: false, ..open };
     }
 
     /// The selected drive ready for an act, with its head here.
