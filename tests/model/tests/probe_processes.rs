@@ -20,7 +20,7 @@ fn compare(words: &[&str], folder: &str) -> (Output, Vec<String>, PathBuf) {
 fn the_models_own_program_passes() {
     let (output, lines, keep) = compare(&["--case", "0", "--seed", "5"], "probe-self");
     assert!(output.status.success(), "{lines:#?}");
-    assert_eq!(lines.last().map(String::as_str), Some("22 passed, 0 failed"));
+    assert_eq!(lines.last().map(String::as_str), Some("25 passed, 0 failed"));
     assert!(lines[0].ends_with("seed 5") && !keep.exists());
 }
 

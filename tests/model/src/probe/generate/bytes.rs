@@ -107,6 +107,8 @@ pub fn skeleton(random: &mut Random, _: &mut Index, frames: &mut Vec<Frame>) {
         if random.chance(750) {
             record[drive + 16..drive + 18].copy_from_slice(&[1, 0]);
         }
+        let most = if record[drive + 19] == 1 { 3 } else { 1 };
+        lower(random, &mut record[drive + codec::LATE..][..1], most);
         let bound = random.pick(&[3000, 3000, 3000, LONGEST + 2]);
         lower(random, &mut record[drive..drive + 8], bound);
     }

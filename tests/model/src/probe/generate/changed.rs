@@ -21,16 +21,21 @@ pub fn runs(random: &mut Random, _: &mut Index, frames: &mut Vec<Frame>) {
     let mut setting = begin(random);
     for _ in 0..EVENTS {
         let event = likely(random, &setting);
-        let frame = setting.clone().with(&event);
-        let Frame::Step(step) = &frame else { unreachable!("a setting is a step") };
-        let Stepped { record, tapes, .. } = bench.step(step);
-        frames.push(frame);
-        setting.unit = codec::decode(&record).expect("a step leaves a record");
-        for (lent, tape) in setting.tapes.iter_mut().zip(tapes) {
-            *lent = back(lent.length, tape);
-        }
+        frames.push(follow(&mut bench, &mut setting, &event));
         change(random, &mut setting);
     }
+}
+
+/// The frame of an event, after which record and tapes are as the model leaves them.
+pub fn follow(bench: &mut Bench, setting: &mut Setting, event: &[u8]) -> Frame {
+    let frame = setting.clone().with(event);
+    let Frame::Step(step) = &frame else { unreachable!("a setting is a step") };
+    let Stepped { record, tapes, .. } = bench.step(step);
+    setting.unit = codec::decode(&record).expect("a step leaves a record");
+    for (lent, tape) in setting.tapes.iter_mut().zip(tapes) {
+        *lent = back(lent.length, tape);
+    }
+    frame
 }
 
 /// A drive at work, mostly just before the end of a block.
@@ -84,7 +89,8 @@ fn change(random: &mut Random, setting: &mut Setting) {
             setting.lend(around(random, cut, head, [0x01, 0x01]));
         }
         3 => {
-            let longer = head as usize % 5000 + random.pick(&[513, 514, 1026, 1541, 2054]);
+            let longer =
+                head as usize % 5000 + random.pick(&[513, 514, 1026, 1027, 1540, 1541, 2054]);
             setting.lend(around(random, longer, head, [0x01, 0x02]));
         }
         4 => setting.tapes[random.among(0..4)] = scrap(random),

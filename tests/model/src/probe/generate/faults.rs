@@ -1,6 +1,6 @@
-//! Records that cannot be: every way that the document lists, alone and together.
+//! Records that cannot be: every way that the documents list, alone and together.
 
-use super::parts::{Act, Setting};
+use super::parts::{fitting_late, Act, Setting};
 use super::possible::lend_any;
 use super::{events, Index};
 use crate::compare::random::Random;
@@ -17,6 +17,8 @@ enum Fault {
     Phase(Phase, Mode),
     /// What a drive is said to be: loaded, protected, and its mode.
     Drive(usize, bool, bool, Mode),
+    /// A mode of a drive, and late blocks that cannot be allowed in it.
+    Late(usize, Mode, u8),
 }
 
 /// Numbers that are small in their low bytes and large all the same.
@@ -39,7 +41,7 @@ fn all() -> &'static [Fault] {
             all.extend([Mode::Idle, Mode::Reading].map(|m| Fault::Phase(Phase::Taking(n), m)));
             all.extend([Mode::Idle, Mode::Writing].map(|m| Fault::Phase(Phase::Giving(n), m)));
         }
-        (0..4).for_each(|at| all.extend(of_drive(at)));
+        (0..4).for_each(|at| all.extend(of_drive(at).chain(late_in(at))));
         all
     })
 }
@@ -56,6 +58,14 @@ fn of_drive(at: usize) -> impl Iterator<Item = Fault> {
     ])
 }
 
+/// Late blocks that cannot be of one drive: too many in Writing, any outside it.
+fn late_in(at: usize) -> impl Iterator<Item = Fault> {
+    let many = [3, 4, 5, 6, 127, 128, 129, 130, 254, 255];
+    let any = [1, 2].into_iter().flat_map(|late| [(Mode::Idle, late), (Mode::Reading, late)]);
+    let many = many.into_iter().map(|late| (Mode::Writing, late));
+    many.chain(any).map(move |(mode, late)| Fault::Late(at, mode, late))
+}
+
 /// Puts a fault in a record.
 fn put(fault: Fault, setting: &mut Setting) {
     match fault {
@@ -67,7 +77,13 @@ fn put(fault: Fault, setting: &mut Setting) {
         }
         Fault::Drive(at, loaded, protected, mode) => {
             let drive = &mut setting.unit.drives[at];
-            *drive = Drive { loaded, protected, mode, ..drive.clone() };
+            let late = fitting_late(mode, drive.late);
+            *drive = Drive { loaded, protected, mode, late, ..drive.clone() };
+        }
+        Fault::Late(at, mode, late) => {
+            let drive = &mut setting.unit.drives[at];
+            let open = Drive { loaded: true, protected: false, ..drive.clone() };
+            *drive = Drive { mode, late, ..open };
         }
     }
 }

@@ -7,8 +7,10 @@ use crate::probe::frame::{Frame, Lent};
 use crate::state::{LONGEST, ROOM};
 
 /// Lengths of tapes at which something begins to fit.
-const LENGTHS: [usize; 18] =
-    [0, 1, 2, 3, 512, 513, 514, 515, 1026, 1028, 1029, 1540, 1541, 1542, 2053, 2054, 2055, 3000];
+const LENGTHS: [usize; 19] = [
+    0, 1, 2, 3, 512, 513, 514, 515, 1026, 1027, 1028, 1029, 1540, 1541, 1542, 2053, 2054, 2055,
+    3000,
+];
 
 /// How far a head stands from the end of its tape.
 const BACK: [u64; 22] = [
@@ -46,7 +48,7 @@ pub fn lengths(random: &mut Random, index: &mut Index, frames: &mut Vec<Frame>) 
     let length = index.below(3101);
     let act = index.of(&acts());
     let far = random.among(0..length + 1) as u64;
-    let back = random.pick(&[far, 0, 1, 512, 513, 514, 1028, ROOM - 1, ROOM, ROOM + 1]);
+    let back = random.pick(&[far, 0, 1, 512, 513, 514, 1026, 1027, 1028, ROOM - 1, ROOM, ROOM + 1]);
     let head = (length as u64).saturating_sub(back);
     let kinds = [random.pick(&[1, 1, 1, 0, 2, 3]), random.pick(&[0, 1, 2, 3])];
     let mut setting = Setting::new(random);

@@ -47,7 +47,7 @@ pub fn beyond(random: &mut Random, index: &mut Index, frames: &mut Vec<Frame>) {
 
 /// All acts with the head near the end of a tape of the longest length.
 pub fn exactly(random: &mut Random, index: &mut Index, frames: &mut Vec<Frame>) {
-    let back = index.of(&[0, 1, 2, 512, 513, 514, 1540, 1541, 1542, 2053, 2054, 2055]);
+    let back = index.of(&[0, 1, 2, 512, 513, 514, 1026, 1027, 1540, 1541, 1542, 2053, 2054, 2055]);
     let act = index.of(&acts());
     let kind = index.below(4) as u8;
     let head = LONGEST - back;

@@ -5,6 +5,7 @@ mod changed;
 mod events;
 mod faults;
 mod heads;
+mod late;
 mod longest;
 pub mod parts;
 mod phases;
@@ -55,8 +56,8 @@ const fn generator(name: &'static str, rounds: usize, make: Make) -> Generator {
 }
 
 /// All generators; the last one fills up to the number asked for.
-static GENERATORS: [Generator; 22] = [
-    generator("every event in every situation", 5, possible::situations),
+static GENERATORS: [Generator; 25] = [
+    generator("every event in every situation", 4, possible::situations),
     generator("one fault in a record", 12, faults::one),
     generator("several faults in a record", 60_000, faults::several),
     generator("heads at, near and above the end", 4, heads::near_the_end),
@@ -67,6 +68,9 @@ static GENERATORS: [Generator; 22] = [
     generator("every kind byte after a block", 8, heads::kinds_after),
     generator("records one after another", 3000, heads::chains),
     Generator { share: 400, ..generator("tapes changed between events", 20_000, changed::runs) },
+    generator("every number of late blocks", 4, late::values),
+    generator("late blocks and their room", 3, late::rooms),
+    Generator { share: 400, ..generator("late WRITEs one after another", 2500, late::writes) },
     generator("events of 0 to 4 bytes", 8, events::short),
     generator("every event of 2 bytes", 1, events::pairs),
     generator("events of any length", 1, events::long),

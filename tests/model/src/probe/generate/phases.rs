@@ -44,7 +44,8 @@ pub fn places(random: &mut Random, index: &mut Index, frames: &mut Vec<Frame>) {
     let event = index.of(&EVENTS);
     let exception = index.of(&[false, true]);
     let head = random.pick(&[0, 1, 513]);
-    let rest = random.pick(&[511, 512, 513, 514, 1028, ROOM - 1, ROOM, ROOM + 513]);
+    let late = random.pick(&[513, 514, 515, 1026, 1027, 1028]);
+    let rest = random.pick(&[511, 512, late, late, ROOM - 1, ROOM, ROOM + 513]);
     let (bad, next) = (unknown(random), unknown(random));
     let kinds = [random.pick(&[1, 1, 1, 1, 0, 2, bad]), random.pick(&[0, 1, 2, next])];
     let mut setting = Setting::new(random);

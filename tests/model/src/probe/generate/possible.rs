@@ -4,7 +4,7 @@ use super::parts::{around, scrap, unknown, written, Setting};
 use super::{events, faults, Index};
 use crate::compare::random::Random;
 use crate::probe::frame::{Frame, Lent};
-use crate::state::{Mode, Phase, ROOM};
+use crate::state::{Mode, Phase, LATE_BLOCKS, LATE_ROOM, ROOM};
 use std::sync::OnceLock;
 
 /// What decides about an event, beside tape and head.
@@ -13,6 +13,7 @@ struct Situation {
     loaded: bool,
     protected: bool,
     mode: Mode,
+    late: u8,
     phase: Phase,
     exception: bool,
     online: bool,
@@ -28,16 +29,28 @@ fn all() -> &'static [Situation] {
                 if mode != Mode::Idle && !loaded || mode == Mode::Writing && protected {
                     continue;
                 }
-                for phase in phases(mode) {
-                    for level in 0..4 {
-                        let (exception, online) = (level & 1 != 0, level & 2 != 0);
-                        all.push(Situation { loaded, protected, mode, phase, exception, online });
-                    }
-                }
+                all.extend(levels(mode).map(|(late, phase, exception, online)| Situation {
+                    loaded,
+                    protected,
+                    mode,
+                    late,
+                    phase,
+                    exception,
+                    online,
+                }));
             }
         }
         all
     })
+}
+
+/// Late blocks, phase, EXCEPTION and ONLINE, in all combinations that go with a mode.
+fn levels(mode: Mode) -> impl Iterator<Item = (u8, Phase, bool, bool)> {
+    let lates = if mode == Mode::Writing { 0..=LATE_BLOCKS } else { 0..=0 };
+    let phases = move |late| phases(mode).into_iter().map(move |phase| (late, phase));
+    let both =
+        |(late, phase)| (0..4).map(move |level| (late, phase, level & 1 != 0, level & 2 != 0));
+    lates.flat_map(phases).flat_map(both)
 }
 
 /// The phases that go with a mode.
@@ -63,6 +76,7 @@ pub fn situations(random: &mut Random, index: &mut Index, frames: &mut Vec<Frame
     drive.loaded = situation.loaded;
     drive.protected = situation.protected;
     drive.mode = situation.mode;
+    drive.late = situation.late;
     drive.exception = situation.exception;
     lend_any(random, &mut setting);
     frames.push(setting.with(&event));
@@ -72,10 +86,11 @@ pub fn situations(random: &mut Random, index: &mut Index, frames: &mut Vec<Frame
 pub fn lend_any(random: &mut Random, setting: &mut Setting) {
     let length = match random.among(0..4) {
         0 => random.among(0..4),
-        1 => random.pick(&[512, 513, 514, 1026, 1540, 1541, 1542]),
+        1 => random.pick(&[512, 513, 514, 1026, 1027, 1540, 1541, 1542]),
         _ => random.among(0..3000),
     };
-    let back = random.pick(&[0, 1, 513, 514, ROOM - 1, ROOM, ROOM + 1, ROOM + 513]);
+    let late = random.pick(&[LATE_ROOM - 1, LATE_ROOM, LATE_ROOM + 1, 1026, 1027, 1028]);
+    let back = random.pick(&[0, 1, late, late, ROOM - 1, ROOM, ROOM + 1, ROOM + 513]);
     let head = match random.among(0..4) {
         0 => 0,
         1 => random.among(0..length + 3) as u64,
