@@ -1,30 +1,19 @@
 //! The traces reach what they are meant to reach.
 
 use model::commands::*;
-use model::compare::suites::{self, Case};
-use model::replay::blank_tapes;
+use model::compare::suites::{self, walk, Case};
 use model::{events, Answer, Event, Mode, Outcome, Phase, Unit};
 use std::collections::{BTreeMap, BTreeSet};
-
-/// Calls back with the record before each answered event and with what came of it.
-fn walk(cases: &[Case], mut see: impl FnMut(&Unit, &[u8], &Outcome, &Unit)) {
-    for case in cases {
-        let (mut unit, mut tapes) = (Unit::fresh(), blank_tapes());
-        for event in events::all(&case.trace()) {
-            let before = unit.clone();
-            let outcome = unit.step(&mut tapes, event);
-            see(&before, event, &outcome, &unit);
-            if outcome.answer == Answer::Malformed {
-                break;
-            }
-        }
-    }
-}
 
 fn cases(suite: &str, events: usize) -> Vec<Case> {
     let mut cases = suites::all(3, events);
     cases.retain(|case| case.suite == suite);
     cases
+}
+
+/// The cases of suites that need no random traces.
+fn of_suites(suites: &[&str]) -> Vec<Case> {
+    suites.iter().flat_map(|suite| cases(suite, 0)).collect()
 }
 
 /// Mode, ONLINE, phase and EXCEPTION of the selected drive, in a word.
@@ -36,13 +25,14 @@ fn state(unit: &Unit) -> String {
         Phase::Giving(_) => "inside a block taken",
         Phase::Status(_) => "status",
     };
+    let late = if drive.late > 0 { " late" } else { "" };
     let online = if unit.online { "online" } else { "offline" };
     let exception = if drive.exception { ", exception" } else { "" };
-    format!("{:?}, {phase}, {online}{exception}", drive.mode)
+    format!("{:?}{late}, {phase}, {online}{exception}", drive.mode)
 }
 
 /// All that a run from a fresh unit can reach.
-const STATES: [&str; 16] = [
+const STATES: [&str; 20] = [
     "Idle, rest, online",
     "Idle, rest, offline",
     "Idle, rest, online, exception",
@@ -55,6 +45,10 @@ const STATES: [&str; 16] = [
     "Writing, rest, online, exception",
     "Writing, inside a block given, online",
     "Writing, status, online",
+    "Writing late, rest, online",
+    "Writing late, rest, online, exception",
+    "Writing late, inside a block given, online",
+    "Writing late, status, online",
     "Reading, rest, online",
     "Reading, rest, online, exception",
     "Reading, inside a block taken, online",
@@ -64,7 +58,7 @@ const STATES: [&str; 16] = [
 #[test]
 fn every_octet_comes_in_every_state() {
     let mut seen = BTreeMap::<String, BTreeSet<u8>>::new();
-    walk(&cases("commands", 0), |before, event, _, _| {
+    walk(&of_suites(&["commands", "late WRITE"]), |before, event, _, _| {
         if let Some(Event::Command(octet)) = Event::of(event) {
             seen.entry(state(before)).or_default().insert(octet);
         }
@@ -78,7 +72,7 @@ fn every_octet_comes_in_every_state() {
 #[test]
 fn every_other_event_comes_in_every_state() {
     let mut seen = BTreeMap::<String, BTreeSet<Vec<u8>>>::new();
-    walk(&cases("other events", 0), |before, event, _, _| {
+    walk(&of_suites(&["other events", "late WRITE"]), |before, event, _, _| {
         if !matches!(Event::of(event), Some(Event::Command(_) | Event::Give(_))) {
             seen.entry(state(before)).or_default().insert(event.to_vec());
         }
@@ -139,15 +133,32 @@ fn counters_and_tapes_get_full() {
         ends += (after.drives[after.selected as usize].head == 16_384) as usize;
         taken += (event == [0x03] && outcome.byte.is_some()) as usize;
     });
-    assert!(ends > 10 && taken > 4 * 29 * 512);
+    assert!(ends > 10 && taken > 4 * 31 * 512);
 }
 
-/// Things that happen, each told by a word.
-fn happenings(before: &Unit, event: &[u8], outcome: &Outcome) -> Option<&'static str> {
+/// Two words, the second one for a late WRITE.
+fn or_late(late: u8, words: [&'static str; 2]) -> Option<&'static str> {
+    Some(words[(late > 0) as usize])
+}
+
+/// Where a cartridge is pulled, told by a word.
+fn pulled(before: &Unit, at: usize) -> &'static str {
+    match (at as u64 == before.selected, before.phase) {
+        (true, Phase::Rest) => "pulled at rest",
+        (true, Phase::Status(_)) => "pulled in status",
+        (true, _) => "pulled in a block",
+        _ => "pulled elsewhere",
+    }
+}
+
+/// A thing that happens, told by a word.
+fn word(before: &Unit, event: &[u8], outcome: &Outcome, after: &Unit) -> Option<&'static str> {
     let drive = &before.drives[before.selected as usize];
     let taken = outcome.answer == Answer::Taken;
     match Event::of(event)? {
-        Event::Command(WRITE) if taken => Some("WRITE"),
+        Event::Command(WRITE) if taken => {
+            or_late(after.drives[before.selected as usize].late, ["WRITE", "late WRITE"])
+        }
         Event::Command(READ) if taken => Some("READ"),
         Event::Command(WRITE_FILE_MARK) if taken => Some("WRITE FILE MARK"),
         Event::Command(READ_FILE_MARK) if !drive.exception => Some("READ FILE MARK"),
@@ -155,8 +166,12 @@ fn happenings(before: &Unit, event: &[u8], outcome: &Outcome) -> Option<&'static
         Event::Command(octet) if taken && SELECT.contains(&octet) => Some("SELECT"),
         Event::Command(_) if drive.mode == Mode::Writing && !taken => Some("illegal in Writing"),
         Event::Command(_) if drive.mode == Mode::Reading && !taken => Some("illegal in Reading"),
-        Event::Give(_) if outcome.answer == Answer::Exception => Some("tape full"),
-        Event::Give(_) if before.phase == Phase::Taking(511) && taken => Some("block given"),
+        Event::Give(_) if outcome.answer == Answer::Exception => {
+            or_late(drive.late, ["early warning", "tape full"])
+        }
+        Event::Give(_) if before.phase == Phase::Taking(511) && taken => {
+            or_late(drive.late, ["block given", "late block given"])
+        }
         Event::Take if before.phase == Phase::Giving(511) && taken => Some("block taken"),
         Event::Take if before.phase == Phase::Giving(511) => Some("last block taken"),
         Event::OnlineDropped if taken && before.online => Some(match drive.mode {
@@ -166,14 +181,7 @@ fn happenings(before: &Unit, event: &[u8], outcome: &Outcome) -> Option<&'static
         }),
         Event::CartridgeIn { protected: true, .. } if taken => Some("protected cartridge in"),
         Event::CartridgeIn { .. } if taken => Some("cartridge in"),
-        Event::CartridgeOut(at) if outcome.answer == Answer::Exception => {
-            Some(match (at as u64 == before.selected, before.phase) {
-                (true, Phase::Rest) => "pulled at rest",
-                (true, Phase::Status(_)) => "pulled in status",
-                (true, _) => "pulled in a block",
-                _ => "pulled elsewhere",
-            })
-        }
+        Event::CartridgeOut(at) if outcome.answer == Answer::Exception => Some(pulled(before, at)),
         Event::Underrun(_) if matches!(before.phase, Phase::Status(_)) => Some("late underrun"),
         Event::Reset if matches!(before.phase, Phase::Taking(_)) => Some("RESET in a block"),
         _ => None,
@@ -183,13 +191,15 @@ fn happenings(before: &Unit, event: &[u8], outcome: &Outcome) -> Option<&'static
 #[test]
 fn steered_traces_do_all_that_a_unit_is_for() {
     let mut seen = BTreeMap::<&str, usize>::new();
-    walk(&cases("steered", 3_000_000), |before, event, outcome, _| {
-        if let Some(word) = happenings(before, event, outcome) {
+    let mut steered = cases("steered", 3_000_000);
+    steered.extend(cases("at the end", 1_000_000));
+    walk(&steered, |before, event, outcome, after| {
+        if let Some(word) = word(before, event, outcome, after) {
             *seen.entry(word).or_default() += 1;
         }
     });
     println!("{seen:#?}");
-    assert_eq!(seen.len(), 23, "{seen:#?}");
+    assert_eq!(seen.len(), 26, "{seen:#?}");
     assert!(seen.values().all(|&count| count >= 10), "{seen:#?}");
 }
 

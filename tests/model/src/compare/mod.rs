@@ -1,5 +1,6 @@
 //! The comparison of a program with the model's `replay`.
 
+mod ending;
 pub mod program;
 pub mod random;
 pub mod records;

@@ -1,4 +1,4 @@
-//! Document 01's own runs, as far as tapes of 16,384 zeros can show them.
+//! The runs of documents 01 and 02, as far as tapes of 16,384 zeros can show them.
 
 use super::Case;
 use crate::commands::*;
@@ -40,6 +40,9 @@ pub fn runs_to_check() -> Vec<Case> {
         run("WRITE, protected, tape same", protected_write),
         run("room of 1541", |script| write_with_room(script, 1541)),
         run("room of 1540", |script| write_with_room(script, 1540)),
+        run("room of 514", |script| write_with_room(script, 514)),
+        run("room of 513", |script| write_with_room(script, 513)),
+        run("a trial closed past early warning", past_early_warning),
         run("mark passed, head 1", |script| {
             load(script, false);
             script.command(WRITE_FILE_MARK);
@@ -70,13 +73,32 @@ fn protected_write(script: &mut Script) {
     script.read_back(0);
 }
 
-/// A block written where so many bytes are left.
+/// Blocks written where so many bytes are left, and again after EOM.
 fn write_with_room(script: &mut Script, room: u64) {
     load(script, false);
     script.advance(16_384 - room);
     script.command(WRITE);
-    script.give_block(0x20);
     script.report();
+    for first in [0x20, 0x21, 0x22] {
+        script.record_block(first);
+        script.report();
+    }
+    script.read_back(0);
+}
+
+/// Blocks to early warning, two more past it, the closing mark, and all of it back.
+fn past_early_warning(script: &mut Script) {
+    load(script, false);
+    script.command(WRITE);
+    while !script.drive().exception {
+        script.give_block(0x24);
+    }
+    script.report();
+    script.command(WRITE);
+    script.give_block(0x25);
+    script.give_block(0x26);
+    script.report();
+    script.command(WRITE_FILE_MARK);
     script.read_back(0);
 }
 

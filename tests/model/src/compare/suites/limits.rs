@@ -5,6 +5,7 @@ use crate::commands::*;
 use crate::compare::random::Random;
 use crate::compare::script::Script;
 use crate::replay::TAPE;
+use crate::Answer;
 
 /// Both counters up to their largest value and past it.
 pub fn counters() -> Vec<Case> {
@@ -137,13 +138,15 @@ pub fn full_tapes(seed: u64) -> Vec<Case> {
     ]
 }
 
-/// Blocks until EOM, marks until EOM, and all of it back.
+/// Blocks until EOM, late ones until there is no room, marks until EOM, and all of it back.
 fn fill(script: &mut Script, drive: u8, mut byte: impl FnMut() -> u8) {
     script.insert(drive, false);
     script.choose(drive);
-    script.command(WRITE);
-    while !script.drive().exception {
-        script.give(byte());
+    while script.command(WRITE).answer == Answer::Taken {
+        while !script.drive().exception {
+            script.give(byte());
+        }
+        script.report();
     }
     script.report();
     while !script.drive().exception {

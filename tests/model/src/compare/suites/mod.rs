@@ -3,6 +3,7 @@
 mod commands;
 mod document;
 mod feeding;
+mod late;
 mod limits;
 mod malformed;
 mod random;
@@ -10,7 +11,8 @@ mod situations;
 
 use crate::compare::program::Feed;
 use crate::compare::script::Script;
-use crate::listing;
+use crate::replay::blank_tapes;
+use crate::{events, listing, Answer, Outcome, Unit};
 use std::fs;
 use std::path::Path;
 
@@ -66,9 +68,12 @@ pub fn all(seed: u64, events: usize) -> Vec<Case> {
         limits::counters(),
         limits::room(),
         limits::full_tapes(seed),
+        late::rooms(),
+        late::states(),
         feeding::pieces(seed),
         feeding::lengths(seed),
         random::steered(seed, events / 2),
+        random::at_the_end(seed, events / 8),
         random::disturbed(seed, events / 8),
         random::heedless(seed, events / 8),
         random::long(seed, events / 4),
@@ -76,6 +81,21 @@ pub fn all(seed: u64, events: usize) -> Vec<Case> {
     .into_iter()
     .flatten()
     .collect()
+}
+
+/// Calls back with the record before each answered event and with what came of it.
+pub fn walk(cases: &[Case], mut see: impl FnMut(&Unit, &[u8], &Outcome, &Unit)) {
+    for case in cases {
+        let (mut unit, mut tapes) = (Unit::fresh(), blank_tapes());
+        for event in events::all(&case.trace()) {
+            let before = unit.clone();
+            let outcome = unit.step(&mut tapes, event);
+            see(&before, event, &outcome, &unit);
+            if outcome.answer == Answer::Malformed {
+                break;
+            }
+        }
+    }
 }
 
 /// The listings of a folder; one that cannot be read is left to the test of the examples.

@@ -2,7 +2,7 @@
 
 use super::Case;
 use crate::compare::random::Random;
-use crate::compare::steer;
+use crate::compare::{ending, steer};
 
 /// Events of one ordinary trace.
 const TRACE: usize = 40_000;
@@ -38,6 +38,11 @@ pub fn disturbed(seed: u64, events: usize) -> Vec<Case> {
 /// Traces that pay no heed to it.
 pub fn heedless(seed: u64, events: usize) -> Vec<Case> {
     cases(seed, "heedless", events.div_ceil(TRACE), TRACE, steer::heedless)
+}
+
+/// Traces that stay near the end of a tape.
+pub fn at_the_end(seed: u64, events: usize) -> Vec<Case> {
+    cases(seed, "at the end", events.div_ceil(TRACE), TRACE, ending::at_the_end)
 }
 
 /// Two steered traces of great length, so that the numbers grow long too.

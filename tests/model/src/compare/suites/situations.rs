@@ -1,4 +1,4 @@
-//! Every state that `replay` can reach, and how it is reached.
+//! Every state that `replay` can reach but those in a late WRITE, and how it is reached.
 //!
 //! Writing or Reading with ONLINE low is not among them: whatever lowers the level ends both.
 
