@@ -50,7 +50,7 @@ fn every_even_mutant_is_found_and_shrunk() {
 
 #[test]
 fn most_mutants_are_found_by_random_traces_alone() {
-    let suites = ["steered", "disturbed", "heedless", "long"];
+    let suites = ["steered", "at the end", "disturbed", "heedless", "long"];
     let mut cases = suites::all(7, 2_000_000);
     cases.retain(|case| suites.contains(&case.suite));
     let missed: Vec<&str> = (1..=mutants::COUNT)

@@ -1,11 +1,11 @@
 //! Mutants broken in what no run of `replay` shows: records, tapes and events set from outside.
 
-use super::{edges, kinds, refused, scene, Scene};
+use super::{edges, kept, kinds, late, refused, scene, Scene};
 use crate::state::Unit;
 use crate::{Outcome, Tapes};
 
 /// Every hidden mutant by its name; its number is its place, counted from 1.
-const HIDDEN: [(&str, fn(&mut Scene)); 62] = [
+const HIDDEN: [(&str, fn(&mut Scene)); 82] = [
     ("a head of 16,777,216 is impossible", refused::head_refused),
     ("a head of 16,777,217 is possible", refused::head_passed),
     ("place 0 of a block is possible", refused::place_0),
@@ -68,6 +68,26 @@ const HIDDEN: [(&str, fn(&mut Scene)); 62] = [
     ("BNL is shown as FIL", kinds::shown_as_fil),
     ("BNL is shown with UDE alone", kinds::shown_by_ude),
     ("ST0 overlooks BNL", kinds::st0_overlooks),
+    ("late is what fits", late::what_fits),
+    ("a late WRITE turns ordinary on a longer tape", late::turns_ordinary),
+    ("an ordinary WRITE turns late on a shorter tape", late::turns_late),
+    ("a late block without room is lost without EOM", late::lost_silently),
+    ("a mark in a late WRITE asks for 514", late::mark_514),
+    ("RESET keeps late in drives not selected", kept::by_reset_elsewhere),
+    ("cartridge out keeps late in drives not selected", kept::by_out_elsewhere),
+    ("ONLINE dropped without room keeps late", kept::by_drop_full),
+    ("WRITE FILE MARK without room keeps late", kept::by_mark_full),
+    ("EOM with nothing recorded keeps late", kept::by_eom_alone),
+    ("late 3 is possible", kept::three_pass),
+    ("late above 2 is possible", kept::many_pass),
+    ("late above 127 is possible", kept::signed),
+    ("late above 2 is possible at Rest", kept::rest_passes),
+    ("late above 2 is possible in drives not selected", kept::many_elsewhere),
+    ("late in Idle is possible", kept::idle_pass),
+    ("late in Reading is possible", kept::reading_pass),
+    ("late in Idle is possible with EXCEPTION up", kept::exception_passes),
+    ("late outside Writing is possible in drives not selected", kept::outside_elsewhere),
+    ("late 2 is impossible", kept::two_refused),
 ];
 
 /// How many there are.

@@ -3,7 +3,9 @@
 mod bytes;
 mod edges;
 pub mod hidden;
+mod kept;
 mod kinds;
+mod late;
 mod orders;
 mod refused;
 mod status;
@@ -35,7 +37,7 @@ enum Break {
 use Break::{Step, Text};
 
 /// Every mutant by its name; its number is its place, counted from 1.
-const MUTANTS: [(&str, Break); 44] = [
+const MUTANTS: [(&str, Break); 70] = [
     ("always answers 2", Step(orders::always_two)),
     ("constant octets", Step(status::constant_octets)),
     ("takes events and changes nothing", Step(orders::changes_nothing)),
@@ -46,7 +48,7 @@ const MUTANTS: [(&str, Break); 44] = [
     ("part block survives RESET", Step(bytes::part_survives)),
     ("ONLINE dropped rewinds every drive", Step(orders::rewinds_all)),
     ("WRITE FILE MARK goes on Writing", Step(bytes::mark_goes_on)),
-    ("WRITE is content with 1540", Step(bytes::write_1540)),
+    ("WRITE is ordinary with 1540", Step(bytes::write_1540)),
     ("early warning one byte late", Step(bytes::late_warning)),
     ("ST0 overlooks WRP", Step(status::st0_overlooks_wrp)),
     ("ST1 overlooks BOM", Step(status::st1_overlooks_bom)),
@@ -76,6 +78,32 @@ const MUTANTS: [(&str, Break); 44] = [
     ("drive body 84 is drive 0", Step(orders::loose_body)),
     ("end of data latches BNL", Step(kinds::with_ndt)),
     ("a mark passed latches BNL", Step(kinds::with_fil)),
+    ("WRITE is late with 1541", Step(late::late_1541)),
+    ("every WRITE is late", Step(late::always_late)),
+    ("a late WRITE is refused", Step(late::refused)),
+    ("a late WRITE asks for two blocks", Step(late::for_two)),
+    ("a late WRITE is content with 513", Step(late::write_513)),
+    ("a late block is content with 513", Step(late::block_513)),
+    ("a late block asks for 1541", Step(late::ordinary_room)),
+    ("a late WRITE takes one block", Step(late::one_block)),
+    ("a late WRITE takes three blocks", Step(late::three_blocks)),
+    ("late blocks are not counted", Step(late::uncounted)),
+    ("no late WRITE after another", Step(late::one_write)),
+    ("no EOM after the second late block", Step(late::no_eom_second)),
+    ("no EOM where another late block has no room", Step(late::no_eom_room)),
+    ("early warning makes a WRITE late", Step(late::goes_on_late)),
+    ("ordinary blocks are counted too", Step(late::counts_ordinary)),
+    ("RESET keeps late", Step(kept::by_reset)),
+    ("cartridge out keeps late", Step(kept::by_out)),
+    ("ONLINE dropped keeps late", Step(kept::by_drop)),
+    ("ONLINE dropped with EXCEPTION keeps late", Step(kept::by_drop_exception)),
+    ("WRITE FILE MARK keeps late", Step(kept::by_mark)),
+    ("EOM keeps late", Step(kept::by_eom)),
+    ("WRITE without room is late", Step(kept::by_refused_write)),
+    ("READ STATUS clears late", Step(kept::status_clears)),
+    ("an illegal order clears late", Step(kept::illegal_clears)),
+    ("a count clears late", Step(kept::count_clears)),
+    ("ONLINE raised clears late", Step(kept::raise_clears)),
     ("replay: a cut-off event is not answered", Text(text::cut_off_unanswered)),
     ("replay: numbers wrap at 65,536", Text(text::numbers_wrap)),
     ("replay: lower-case digits", Text(text::lower_case)),

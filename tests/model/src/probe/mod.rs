@@ -7,6 +7,7 @@ pub mod frame;
 pub mod generate;
 mod happened;
 mod late;
+mod misread;
 pub mod mutants;
 pub mod reply;
 pub mod report;
