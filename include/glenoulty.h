@@ -61,7 +61,7 @@ extern "C" {
 #define GLENOULTY_ST0 0x80 /* another bit of octet 0 stands */
 #define GLENOULTY_CNI 0x40 /* no cartridge, now or at some time since the last report */
 #define GLENOULTY_WRP 0x10 /* the cartridge is protected */
-#define GLENOULTY_EOM 0x08 /* no room left to record */
+#define GLENOULTY_EOM 0x08 /* no room left to record, or a WRITE past early warning took its last block */
 #define GLENOULTY_UDE 0x04 /* a bad record; nothing can be read there */
 #define GLENOULTY_BNL 0x02 /* with GLENOULTY_UDE: its kind byte is none of 00, 01, 02 */
 #define GLENOULTY_FIL 0x01 /* a file mark was passed */
