@@ -34,7 +34,7 @@ static void by_length(void) {
     for (size_t l = KIB; l <= LONGEST; l *= l < MIB ? 32 : 16) {
         size_t few = l < 32 * KIB ? 2000 : 1 + 4 * (size_t)LONGEST / l;
         size(l);
-        if (l < WRITE_ROOM) printf(" no room |");
+        if (l < BLOCK_ROOM) printf(" no room |");
         else cell((struct row){.length = l, .times = 1000, .make = make_given, .subtract = true}, 0);
         cell((struct row){.length = l, .times = 1000, .recorded = BLOCKS, .make = make_taken, .subtract = true}, 0);
         cell((struct row){.length = l, .times = 50000, .make = make_report}, 0);

@@ -26,15 +26,14 @@ fn mode_fits(mode: Mode, loaded: bool, protected: bool) -> bool
     }
 }
 
-// Late blocks are at most two, and none outside Writing.
+// Late blocks are at most two, and none outside Writing. Mostly there are none.
 fn late_fits(mode: Mode, late: u8) -> bool
     ensures { λ r. ⌜ r ≡ lateFits mode late ⌝ }
 {
-    match mode {
-        Mode::Idle => late == 0,
-        Mode::Writing => late <= LATE_BLOCKS,
-        Mode::Reading => late == 0,
+    if late == 0 {
+        return true;
     }
+    mode.is_writing() & (late <= LATE_BLOCKS)
 }
 
 // A head above the longest tape is impossible.
