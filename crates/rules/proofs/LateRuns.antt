@@ -1,24 +1,16 @@
--- What stands behind a block, and how many blocks a late WRITE takes.
-use Prim.Native.Nat.{ℕ, _+_, _-_, _≤_, _<_, zero-le}
+-- How many blocks a late WRITE takes.
+use Prim.Native.Nat.{ℕ, _+_, _-_, _≤_, zero-le}
 use mathlib.Core.Path.{_≡_, refl, sym, ap, subst, _∙_}
-use mathlib.Core.Bool.{Bool, true, false, not, _&&_, true≢false, false≢true}
+use mathlib.Core.Bool.{Bool, true, false, _&&_, true≢false, false≢true}
 use mathlib.Core.List.{List, [], _∷_}
 use native.Mathlib.Omega.{arith}
-use lib.Dec.{leb, eqb}
-use lib.ListN.{length, set, length-set}
-use borrow.Author.Tests.{le-leb, lt-leb, eqb-true, ne-eqb, eq-eqb}
-use Rattle.basis.specs.Choice.{pick}
-use Rattle.tape.specs.declared.found.Found.the-variants.{Stop}
-use Rattle.tape.specs.declared.found.Why.the-variants.{End}
-use Rattle.tape.specs.Record.{foundAt, blockRecord}
-use Rattle.tape.specs.Recording.{recorded}
-use Rattle.tape.proofs.Recorded.{recorded-length}
+use lib.Dec.{eqb}
+use lib.ListN.{length}
+use borrow.Author.Tests.{ne-eqb, eq-eqb}
 use Rattle.rules.specs.declared.drive.Drive.{Drive}
 use Rattle.rules.specs.declared.drive.Mode.the-variants.{Writing}
 use Rattle.rules.specs.declared.unit.Core.{Core}
-use Rattle.rules.specs.declared.unit.Port.{Port}
 use Rattle.rules.specs.declared.phase.Phase.the-variants.{Taking}
-use Rattle.rules.specs.declared.event.Act.{Act}
 use Rattle.rules.specs.declared.event.Act.the-variants.{Command, Give, Take, Online, Offline}
 use Rattle.rules.specs.declared.event.Event.{Event}
 use Rattle.rules.specs.declared.event.Event.the-variants.{NoEvent, Reset, Named, Own}
@@ -27,86 +19,31 @@ use Rattle.rules.specs.declared.order.Order.the-variants.{Write}
 use Rattle.rules.specs.declared.order.Fault.{Fault}
 use Rattle.rules.specs.declared.order.Fault.the-variants.{Fine, Illegal, Empty, Plugged, Full}
 use Rattle.rules.specs.declared.answer.Answer.{Answer}
-use Rattle.rules.specs.declared.answer.Answer.the-variants.{Taken, Raised}
+use Rattle.rules.specs.declared.answer.Answer.the-variants.{Taken}
 use Rattle.rules.specs.Drive.{isWriting}
-use Rattle.rules.specs.Late.{goesOn, allowedAt}
+use Rattle.rules.specs.Late.{allowedAt}
 use Rattle.rules.specs.Unit.{Lent, Whole, driveAt, tapeAt}
 use Rattle.rules.specs.Event.{eventOf}
 use Rattle.rules.specs.Answer.{rowOf}
 use Rattle.rules.specs.Refusal.{possiblePhase, refusalIn}
 use Rattle.rules.specs.Order.{orderOf}
-use Rattle.rules.specs.Effect.{Seat, Acted, withBlock, faultOf, commanded}
-use Rattle.rules.specs.Bytes.{afterBlock, stored}
+use Rattle.rules.specs.Effect.{Seat, faultOf, commanded}
 use Rattle.rules.specs.Step.{Stepped, act, stagedIn, seatOf, effectOf}
-use Rattle.rules.specs.Reach.{accepted}
 use Rattle.rules.specs.Run.{World, after, turnOf}
-use Rattle.rules.specs.Promises.Changes.{Accepted, blockAsks, LastByte}
-use Rattle.rules.specs.Promises.Orders.{fits7}
+use Rattle.rules.specs.Promises.Changes.{Accepted}
 use Rattle.rules.specs.Promises.Status.{driveAfter}
-use Rattle.rules.specs.Promises.Strike.{driveOf, tapeOf, Works}
-use Rattle.rules.specs.Promises.Late.{LateMove, ended, begun, counted, kept, Behind, ByteBehind, isGiven, isWritten, recordsOn, acceptsWrite, oneIf, noneIf, blocksOn, AtMostTwo}
-use Rattle.basis.proofs.Choosing.{both, choice-holds}
+use Rattle.rules.specs.Promises.Strike.{driveOf, tapeOf}
+use Rattle.rules.specs.Promises.Late.{LateMove, ended, begun, counted, kept, isAct, isGive, recordsOn, acceptsWrite, oneIf, noneIf, blocksOn, AtMostTwo}
 use Rattle.rules.proofs.Places.{Got, same, other, put-same}
 use Rattle.rules.proofs.Sound.{Sound, sound, sound-possible}
-use Rattle.rules.proofs.Rooms.{asked-room, room-behind, two-late}
+use Rattle.rules.proofs.Rooms.{two-late}
 use Rattle.rules.proofs.Codes.{orders}
 use Rattle.rules.proofs.Acts.{writing-is, taking-writing}
-use Rattle.rules.proofs.Refused.{own-is, quiet-is}
-use Rattle.rules.proofs.StepBy.{in-step, step-sound, sound-step, staged-sound}
+use Rattle.rules.proofs.Refused.{quiet-is}
+use Rattle.rules.proofs.StepBy.{in-step, step-sound, sound-step}
 use Rattle.rules.proofs.Keeps.{step-stays-sound}
-use Rattle.rules.proofs.Changes.{recording-cuts-off}
 use Rattle.rules.proofs.Status.{own-drive}
 use Rattle.rules.proofs.Lates.{quits, late-moves}
-
--- ---- a block, and the byte behind it
-
--- test 7 lets a mark through where a byte is left
-mark-through : (d : Drive) (n : ℕ) → d .head + 1 ≤ n → fits7 d n 96 ≡ false
-unfolding pick
-mark-through d n r = rw (le-leb (d .head + 1) n r)
-
-behind : (g t : List ℕ) (h : ℕ) (d : Drive) → length g ≡ 512 → h + 514 ≤ length t → d .head ≡ h + 513 → Behind d (recorded t h (blockRecord g)) h
-behind g t h d e r q =
-    let fits : h + length (blockRecord g) ≤ length t = omega (arith, e, r) in
-    let size = recorded-length t (blockRecord g) h fits in
-    let at : h + length (blockRecord g) ≡ d .head = omega (arith, e, q) in
-    let room : d .head + 1 ≤ length (recorded t h (blockRecord g)) = omega (arith, q, r, size) in
-    record {
-      head = q;
-      room = room;
-      end = subst (λ (x : ℕ). foundAt (recorded t h (blockRecord g)) x ≡ Stop End) at (recording-cuts-off .1 t g h e (omega (arith, r)) .ends);
-      mark = mark-through d _ room;
-    }
-
-stored-behind : (g : List ℕ) (p : Port) (d : Drive) (t : List ℕ) → length g ≡ 512 → d .head + blockAsks (d .late) ≤ length t
-    → Behind (stored g p d t .moved .drive) (stored g p d t .tape) (d .head)
-unfolding stored afterBlock pick
-stored-behind g p d t e r =
-    let room = room-behind (d .late) (d .head) (length t) r in
-    rw (asked-room (d .late) (d .head) (length t) r)
-    (choice-holds (λ (m : Acted). Behind (m .moved .drive) (m .tape) (d .head)) (goesOn (d .late) (d .head + 513) (length (withBlock g d t)))
-    (behind g t (d .head) _ e room refl) (behind g t (d .head) _ e room refl))
-
-given-behind : (g : List ℕ) (s : Seat) (b : ℕ) → length g ≡ 512 → s .port .phase ≡ Taking 511
-    → s .drive .head + blockAsks (s .drive .late) ≤ length (s .tape)
-    → Behind (act g s (Give b) .moved .drive) (act g s (Give b) .tape) (s .drive .head)
-unfolding pick
-given-behind g s b e p r = rw p (stored-behind g _ (s .drive) (s .tape) e r)
-
-pub byte-behind : ByteBehind
-byte-behind c l event b w x =
-    step-sound (λ s. rowOf (s .turn .answer) .refuses ≡ false → There s) c l event w (λ a r z. absurd (true≢false (sym r ∙ z)))
-    (λ k h _. subst (λ (e : Event). There (effectOf c l e)) (sym (x .byte)) (there k)) (x .taken)
-  where
-    n : ℕ
-    n = c .port .selected
-
-    There : Stepped → Type 0
-    There s = Behind (driveAt (s .turn .core) n) (tapeAt (s .lent) n) (driveAt c n .head)
-
-    there : Sound c l → There (effectOf c l (Own (Give b)))
-    there k =
-        rw (put-same, put-same) (given-behind (stagedIn c (Give b) l .staging) (seatOf c l) b (staged-sound c l (Give b) k .whole) (x .place) (x .room))
 
 -- ---- a WRITE that is accepted
 
@@ -142,12 +79,12 @@ accepted-begins c l event w x =
 
 -- ---- a byte given moves no drive that is not Writing
 
-given-stays : (c : Core) (l : Lent) (event : List ℕ) (i : ℕ) → i ≤ 3 → Whole l → isGiven (eventOf event) ≡ true → isWriting (driveAt c i .mode) ≡ false
+given-stays : (c : Core) (l : Lent) (event : List ℕ) (i : ℕ) → i ≤ 3 → Whole l → isAct isGive (eventOf event) ≡ true → isWriting (driveAt c i .mode) ≡ false
     → driveAfter c l event i ≡ driveAt c i
 given-stays c l event i r w g off =
     sound-step (λ s. driveAt (s .turn .core) i ≡ driveAt c i) c l event w (λ _. refl) (go (eventOf event) g)
   where
-    go : (e : Event) → isGiven e ≡ true → Sound c l → refusalIn c e ≡ Taken → driveAt (effectOf c l e .turn .core) i ≡ driveAt c i
+    go : (e : Event) → isAct isGive e ≡ true → Sound c l → refusalIn c e ≡ Taken → driveAt (effectOf c l e .turn .core) i ≡ driveAt c i
     go NoEvent g k h = absurd (false≢true g)
     go Reset g k h = absurd (false≢true g)
     go (Named j x) g k h = absurd (false≢true g)
@@ -189,9 +126,9 @@ module _ (w : World) (e : List ℕ) (i : ℕ) (r : i ≤ 3) (k : Sound (w .core)
   -- outside Writing nothing is recorded
   none-recorded : isWriting (d .mode) ≡ false → oneIf (recordsOn i w e) ≡ 0
   unfolding after
-  none-recorded off = go (isGiven (eventOf e)) refl
+  none-recorded off = go (isAct isGive (eventOf e)) refl
     where
-      go : (g : Bool) → isGiven (eventOf e) ≡ g → oneIf (g && eqb (d′ .head) (d .head + 513)) ≡ 0
+      go : (g : Bool) → isAct isGive (eventOf e) ≡ g → oneIf (g && eqb (d′ .head) (d .head + 513)) ≡ 0
       go true q = no-further true (d .head) (d′ .head) (ap (λ (y : Drive). y .head) (given-stays (w .core) (w .lent) e i r (k .whole) q off))
       go false q = refl
 
@@ -222,7 +159,7 @@ module _ (w : World) (e : List ℕ) (i : ℕ) (r : i ≤ 3) (k : Sound (w .core)
       go false q = omega (arith, none-recorded q, few, z)
   fewer rest f n few (begun s a z) = begun-seen n s a
   fewer rest f n few (counted s b x more h z) = omega (arith, one-at-most (recordsOn i w e), f (last-writing s (x .place)), few, z)
-  fewer rest f n few (kept m h z) = omega (arith, no-further (isGiven (eventOf e)) (d .head) (d′ .head) h, few, z)
+  fewer rest f n few (kept m h z) = omega (arith, no-further (isAct isGive (eventOf e)) (d .head) (d′ .head) h, few, z)
 
 at-most : (es : List (List ℕ)) (w : World) (i : ℕ) → i ≤ 3 → Sound (w .core) (w .lent) → Late (driveAt (w .core) i)
     → blocksOn i w es ≤ driveAt (w .core) i .late

@@ -20,6 +20,7 @@ pub mod BadKinds
 pub mod Plug
 pub mod Changes
 pub mod Lates
+pub mod LateBlocks
 pub mod LateRuns
 pub mod Outcomes
 pub mod Runs
@@ -40,5 +41,6 @@ pub mod Ways
 pub mod Blocks
 pub mod Struck
 pub mod Handed
+pub mod Closing
 pub mod Returns
 pub mod Among

@@ -16,7 +16,7 @@ use Rattle.rules.specs.Refusal.{lateFits}
 use Rattle.rules.specs.Promises.Changes.{blockAsks}
 
 -- a block and what is kept behind it
-asks-is : (late : ℕ) → blockAsks late ≡ 513 + spareOf late
+pub asks-is : (late : ℕ) → blockAsks late ≡ 513 + spareOf late
 unfolding pick
 asks-is late = go (eqb late 0)
   where

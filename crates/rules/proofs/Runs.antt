@@ -21,7 +21,7 @@ use Rattle.rules.specs.Run.{after, turnOf}
 use Rattle.rules.specs.Reach.{reaches}
 use Rattle.rules.specs.Promises.Samples.{Samples}
 use Rattle.rules.specs.Promises.Runs.{StarredRunsHold, RunsToCheckHold}
-use Rattle.rules.specs.Promises.Closing.{TrialCloses, ReportsTell, TrialComesBack, TrialStays}
+use Rattle.rules.specs.Promises.Closing.{WarningComes, TrialCloses}
 
 all-hold : StarredRunsHold × RunsToCheckHold × Samples
 unfolding pick ofKind foundAt recorded walk trail counted oneOf putAt putLast bareEvent bodiedEvent eventOf possibleDrive possiblePhase possible
@@ -38,26 +38,14 @@ runs-to-check-hold = all-hold .1
 pub samples : Samples
 samples = all-hold .2
 
+pub warning-comes : WarningComes
+unfolding pick ofKind foundAt recorded walk trail counted oneOf putAt putLast bareEvent bodiedEvent eventOf possibleDrive possiblePhase possible
+    short refusalOf linesOf orderOf illegal faultBy checked octetsOf faultOf stagedByte allowedAt goesOn afterBlock stored handed octetTaken
+    dropped stepBy stepOf after turnOf reaches
+warning-comes = refl
+
 pub trial-closes : TrialCloses
 unfolding pick ofKind foundAt recorded walk trail counted oneOf putAt putLast bareEvent bodiedEvent eventOf possibleDrive possiblePhase possible
     short refusalOf linesOf orderOf illegal faultBy checked octetsOf faultOf stagedByte allowedAt goesOn afterBlock stored handed octetTaken
     dropped stepBy stepOf after turnOf reaches
 trial-closes = refl
-
-pub reports-tell : ReportsTell
-unfolding pick ofKind foundAt recorded walk trail counted oneOf putAt putLast bareEvent bodiedEvent eventOf possibleDrive possiblePhase possible
-    short refusalOf linesOf orderOf illegal faultBy checked octetsOf faultOf stagedByte allowedAt goesOn afterBlock stored handed octetTaken
-    dropped stepBy stepOf after turnOf reaches
-reports-tell = refl
-
-pub trial-comes-back : TrialComesBack
-unfolding pick ofKind foundAt recorded walk trail counted oneOf putAt putLast bareEvent bodiedEvent eventOf possibleDrive possiblePhase possible
-    short refusalOf linesOf orderOf illegal faultBy checked octetsOf faultOf stagedByte allowedAt goesOn afterBlock stored handed octetTaken
-    dropped stepBy stepOf after turnOf reaches
-trial-comes-back = refl
-
-pub trial-stays : TrialStays
-unfolding pick ofKind foundAt recorded walk trail counted oneOf putAt putLast bareEvent bodiedEvent eventOf possibleDrive possiblePhase possible
-    short refusalOf linesOf orderOf illegal faultBy checked octetsOf faultOf stagedByte allowedAt goesOn afterBlock stored handed octetTaken
-    dropped stepBy stepOf after turnOf reaches
-trial-stays = refl

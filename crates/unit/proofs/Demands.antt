@@ -20,7 +20,7 @@ use Rattle.rules.specs.Promises.BadKinds.{KindTold}
 use Rattle.rules.specs.Promises.Changes.{Happens}
 use Rattle.rules.specs.Promises.Changes
 use Rattle.rules.specs.Promises.Strike.{recording, reading, passing, bytesOf}
-use Rattle.rules.specs.Promises.Late.{LateMove, Behind}
+use Rattle.rules.specs.Promises.Late.{LateMove, Behind, EomOrOn}
 use Rattle.rules.specs.Promises.Demand3.{Demand3For}
 use Rattle.rules.specs.Ran.{Ran, no-event, next}
 use Rattle.rules.proofs.Table.{answers-by-the-table}
@@ -32,7 +32,8 @@ use Rattle.rules.proofs.Keeps.{protected-keeps}
 use Rattle.rules.proofs.Plug.{other-tapes-stay, other-drives-stay}
 use Rattle.rules.proofs.Changes.{one-change, recording-happens}
 use Rattle.rules.proofs.Lates.{late-moves}
-use Rattle.rules.proofs.LateRuns.{byte-behind, at-most-two}
+use Rattle.rules.proofs.LateBlocks.{byte-behind, eom-exactly}
+use Rattle.rules.proofs.LateRuns.{at-most-two}
 use Rattle.rules.proofs.Returns.{strike-comes-back}
 use Rattle.rules.proofs.Among.{strike-among-others}
 use Rattle.rules.proofs.Demand3.{demand-3, demand-3-any-level}
@@ -117,6 +118,7 @@ by-the-rules c l event r l′ w p =
       happens = of (λ s. Happens c l event (tapeAt (s .lent) n)) (recording-happens c l event w);
       late = λ i h q. of (λ s. LateMove c l event i (driveAt c i) (driveAt (s .turn .core) i)) (late-moves c l event i h w q);
       behind = λ b q. of (λ s. Behind (driveAt (s .turn .core) n) (tapeAt (s .lent) n) (driveAt c n .head)) (byte-behind c l event b w q);
+      eom = λ b q. of (λ s. EomOrOn (driveAt c n) (driveAt (s .turn .core) n) (length (tapeAt l n)) (s .turn .answer)) (eom-exactly c l event b w q);
     }
 
 pub demands-hold : DemandsHold

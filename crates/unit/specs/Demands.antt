@@ -27,7 +27,7 @@ use Rattle.rules.specs.Promises.Changes.{LastByte, Happens}
 use Rattle.rules.specs.Promises.Changes
 use Rattle.rules.specs.Promises.Events.{joined}
 use Rattle.rules.specs.Promises.Strike.{driveOf, tapeOf, MayRecord, AllWhole, AllTaken, recording, reading, Back, passing, HandedOut, bytesOf, handedBy}
-use Rattle.rules.specs.Promises.Late.{LateMove, Behind, AtMostTwo}
+use Rattle.rules.specs.Promises.Late.{LateMove, Behind, LastGiven, EomOrOn, AtMostTwo}
 use Rattle.rules.specs.Promises.Demand3.{Alike}
 use Rattle.rules.specs.Ran.{Ran, RunsAreTheBooks}
 
@@ -102,10 +102,12 @@ module _ (c : Core) (l : Lent) (event : List ℕ) (r : Turn) (l′ : Lent) where
     -- What changes the selected drive's tape, and when.
     pub change : Changes.Change c l event (tapeAt l′ (c .port .selected))
     pub happens : Happens c l event (tapeAt l′ (c .port .selected))
-    -- What becomes of late blocks, and what stands behind a block that is recorded.
+    -- What becomes of late blocks, what stands behind a block that is recorded, and where EOM comes.
     pub late : (i : ℕ) → i ≤ 3 → possible c ≡ true → LateMove c l event i (driveAt c i) (driveAt (r .core) i)
     pub behind : (b : ℕ) → LastByte c l event b
         → Behind (driveAt (r .core) (c .port .selected)) (tapeAt l′ (c .port .selected)) (driveAt c (c .port .selected) .head)
+    pub eom : (b : ℕ) → LastGiven c l event b
+        → EomOrOn (driveAt c (c .port .selected)) (driveAt (r .core) (c .port .selected)) (length (tapeAt l (c .port .selected))) (r .answer)
 
 pub record DemandsHold : Type 0 where
   -- 1. Every event gets the answer that the table gives.

@@ -1,7 +1,7 @@
 -- Past early warning: how the late blocks that a drive allows may move, what stands behind a block, and how many a WRITE takes.
 use Prim.Native.Nat.{ℕ, _+_, _-_, _≤_, _<_}
 use mathlib.Core.Path.{_≡_}
-use mathlib.Core.Bool.{Bool, true, false, _&&_}
+use mathlib.Core.Bool.{Bool, true, false, not, _&&_}
 use mathlib.Core.List.{List, [], _∷_}
 use lib.Dec.{leb, eqb}
 use lib.ListN.{length}
@@ -10,20 +10,25 @@ use Rattle.tape.specs.declared.found.Found.the-variants.{Stop}
 use Rattle.tape.specs.declared.found.Why.the-variants.{End}
 use Rattle.tape.specs.Record.{foundAt}
 use Rattle.rules.specs.declared.drive.Drive.{Drive}
-use Rattle.rules.specs.declared.drive.Mode.the-variants.{Writing}
+use Rattle.rules.specs.declared.drive.Mode.the-variants.{Idle, Writing}
 use Rattle.rules.specs.declared.unit.Core.{Core}
+use Rattle.rules.specs.declared.phase.Phase.the-variants.{Taking}
 use Rattle.rules.specs.declared.event.Act.{Act}
 use Rattle.rules.specs.declared.event.Act.the-variants.{Command, Give, Take, Online, Offline}
 use Rattle.rules.specs.declared.event.Event.{Event}
 use Rattle.rules.specs.declared.event.Event.the-variants.{NoEvent, Reset, Named, Own}
+use Rattle.rules.specs.declared.answer.Answer.{Answer}
+use Rattle.rules.specs.declared.answer.Answer.the-variants.{Taken, Raised}
 use Rattle.rules.specs.Unit.{Lent, Whole, driveAt, tapeAt}
 use Rattle.rules.specs.Event.{eventOf}
+use Rattle.rules.specs.Answer.{rowOf}
 use Rattle.rules.specs.Refusal.{possible}
 use Rattle.rules.specs.Reach.{accepted}
 use Rattle.rules.specs.Run.{World, after, turnOf}
+use Rattle.rules.specs.Promises.Table.{answerTo}
 use Rattle.rules.specs.Promises.Status.{driveAfter}
 use Rattle.rules.specs.Promises.Plug.{tapeAfter}
-use Rattle.rules.specs.Promises.Changes.{Accepted, LastByte}
+use Rattle.rules.specs.Promises.Changes.{Accepted, blockAsks, LastByte}
 use Rattle.rules.specs.Promises.Orders.{fits7}
 use Rattle.rules.specs.Promises.Strike.{driveOf, tapeOf, Works}
 
@@ -59,9 +64,36 @@ ByteBehind =
     (c : Core) (l : Lent) (event : List ℕ) (b : ℕ) → Whole l → LastByte c l event b
     → Behind (driveAfter c l event (c .port .selected)) (tapeAfter c l event (c .port .selected)) (driveAt c (c .port .selected) .head)
 
+-- The 512th byte, given to the selected drive and taken, with room for its block or without.
+pub record LastGiven (c : Core) (l : Lent) (event : List ℕ) (b : ℕ) : Type 0 where
+  pub byte : eventOf event ≡ Own (Give b)
+  pub place : c .port .phase ≡ Taking 511
+  pub taken : rowOf (answerTo c l event) .refuses ≡ false
+
+-- The WRITE goes on behind it: the block has room, it is not the last late one, and the next one has room by the same test.
+abbrev pub onwards : Drive → ℕ → Bool
+onwards d size =
+    leb (d .head + blockAsks (d .late)) size && (not (eqb (d .late) 1) && leb (d .head + 513 + blockAsks (d .late)) size)
+
+-- EOM comes exactly where it does not go on.
+pub record EomOrOn (d d′ : Drive) (size : ℕ) (a : Answer) : Type 0 where
+  pub on : onwards d size ≡ true → (a ≡ Taken) × (d′ .mode ≡ Writing)
+  pub eom : onwards d size ≡ false → (a ≡ Raised) × (d′ .mode ≡ Idle) × (d′ .latched .eom ≡ true)
+
+abbrev pub EomExactly : Type 0
+EomExactly =
+    (c : Core) (l : Lent) (event : List ℕ) (b : ℕ) → Whole l → LastGiven c l event b
+    → EomOrOn (driveAt c (c .port .selected)) (driveAfter c l event (c .port .selected)) (length (tapeAt l (c .port .selected))) (answerTo c l event)
+
 -- ---- Of a run
 
--- A byte is given.
+-- An act of the host that is such a one: a byte given, or WRITE ordered.
+abbrev pub isAct : (Act → Bool) → Event → Bool
+isAct f NoEvent = false
+isAct f Reset = false
+isAct f (Named i w) = false
+isAct f (Own a) = f a
+
 abbrev pub isGive : Act → Bool
 isGive (Command k) = false
 isGive (Give b) = true
@@ -69,13 +101,6 @@ isGive Take = false
 isGive Online = false
 isGive Offline = false
 
-abbrev pub isGiven : Event → Bool
-isGiven NoEvent = false
-isGiven Reset = false
-isGiven (Named i w) = false
-isGiven (Own a) = isGive a
-
--- WRITE is ordered.
 abbrev pub isWrite : Act → Bool
 isWrite (Command k) = eqb k 64
 isWrite (Give b) = false
@@ -83,18 +108,12 @@ isWrite Take = false
 isWrite Online = false
 isWrite Offline = false
 
-abbrev pub isWritten : Event → Bool
-isWritten NoEvent = false
-isWritten Reset = false
-isWritten (Named i w) = false
-isWritten (Own a) = isWrite a
-
 -- An event records a block on drive i: a byte is given, and the head stands a block further. Drive i accepts a WRITE.
 abbrev pub recordsOn : ℕ → World → List ℕ → Bool
-recordsOn i w e = isGiven (eventOf e) && eqb (driveAt (after w e .core) i .head) (driveAt (w .core) i .head + 513)
+recordsOn i w e = isAct isGive (eventOf e) && eqb (driveAt (after w e .core) i .head) (driveAt (w .core) i .head + 513)
 
 abbrev pub acceptsWrite : ℕ → World → List ℕ → Bool
-acceptsWrite i w e = eqb (w .core .port .selected) i && (isWritten (eventOf e) && accepted (turnOf w e .answer))
+acceptsWrite i w e = eqb (w .core .port .selected) i && (isAct isWrite (eventOf e) && accepted (turnOf w e .answer))
 
 -- The blocks that a run records on drive i, up to the next WRITE that it accepts.
 abbrev pub oneIf : Bool → ℕ
