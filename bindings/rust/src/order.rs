@@ -17,7 +17,7 @@ pub enum Order {
     Erase = 0x22,
     /// Back to the beginning of the tape.
     Initialization = 0x24,
-    /// The bytes given from now on are recorded, block by block.
+    /// The bytes given from now on are recorded, block by block; past early warning two blocks at most.
     Write = 0x40,
     /// Records a file mark.
     WriteFileMark = 0x60,

@@ -9,7 +9,7 @@ pub const CNI: u8 = 0x40;
 /// Octet 0: the cartridge is protected.
 pub const WRP: u8 = 0x10;
 
-/// Octet 0: no room left to record.
+/// Octet 0: no room left to record, or a WRITE past early warning took its last block.
 pub const EOM: u8 = 0x08;
 
 /// Octet 0: a bad record; nothing can be read there.
