@@ -6,7 +6,7 @@ use mathlib.Core.List.{List}
 use native.Mathlib.Omega.{arith}
 use lib.Dec.{leb}
 use lib.ListN.{length, set, take, length-set}
-use borrow.Author.Tests.{le-leb, not-true}
+use borrow.Author.Tests.{not-true}
 use Rattle.basis.specs.Choice.{pick}
 use Rattle.tape.specs.Record.{markRecord, blockRecord}
 use Rattle.tape.specs.Recording.{recorded, erased}
@@ -21,17 +21,18 @@ use Rattle.rules.specs.declared.event.Act.{Act}
 use Rattle.rules.specs.declared.event.Act.the-variants.{Command, Give, Offline}
 use Rattle.rules.specs.declared.event.Event.{Event}
 use Rattle.rules.specs.declared.event.Event.the-variants.{NoEvent, Reset, Named, Own}
+use Rattle.rules.specs.declared.order.Order.{Order}
 use Rattle.rules.specs.declared.order.Order.the-variants.{Erase, WriteMark}
 use Rattle.rules.specs.declared.order.Fault.{Fault}
 use Rattle.rules.specs.declared.order.Fault.the-variants.{Fine, Illegal, Empty, Plugged, Full}
 use Rattle.rules.specs.declared.answer.Answer.{Answer}
 use Rattle.rules.specs.declared.answer.Answer.the-variants.{Taken, Raised}
-use Rattle.rules.specs.Drive.{isWriting, writes, made, stopping}
+use Rattle.rules.specs.Drive.{isWriting, writes, stopping}
 use Rattle.rules.specs.Unit.{Lent, Whole, driveAt, tapeAt, atLevel}
 use Rattle.rules.specs.Event.{eventOf}
 use Rattle.rules.specs.Answer.{rowOf}
 use Rattle.rules.specs.Refusal.{refusalIn}
-use Rattle.rules.specs.Effect.{Seat, Acted, leaves, withMark, withBlock, faultOf, commanded}
+use Rattle.rules.specs.Effect.{Seat, Acted, leaves, withMark, withBlock, ordered, faultOf, commanded}
 use Rattle.rules.specs.Bytes.{stagedByte, afterBlock, stored}
 use Rattle.rules.specs.Late.{goesOn}
 use Rattle.rules.specs.Online.{leftAlone, leaving, dropped}
@@ -73,7 +74,7 @@ module _ (c : Core) (l : Lent) (event : List ℕ) where
       markLeft (record { line = q ∙ ap Own e; up = u; writing = w; answer = h ∙ quiet-answer _ n }) r
   own-change a m q h t′ (Leaves.blocks b e p r) =
       rw (last-staged c l a b e p)
-      (blockMade b (record { byte = q ∙ ap Own e; place = p; taken = rw h (taken-not-refused (m .moved .raised)); room = r }))
+      (blockMade b (record { given = record { byte = q ∙ ap Own e; place = p; taken = rw h (taken-not-refused (m .moved .raised)) }; room = r }))
 
   effect-change : (e : Event) → eventOf event ≡ e → Sound c l → refusalIn c e ≡ Taken
       → Told (λ s. Change c l event (tapeAt (s .lent) (c .port .selected))) (effectOf c l e)
@@ -90,20 +91,16 @@ one-change c l event w =
 
 -- ---- and where there is that reason, it does happen
 
--- an order that raises nothing passed the tests
-erased-there : (s : Seat) (f : Fault) → commanded s Erase f .moved .raised ≡ false → commanded s Erase f .tape ≡ erased (s .tape)
-erased-there s Fine h = refl
-erased-there s Illegal h = absurd (true≢false h)
-erased-there s Empty h = absurd (true≢false h)
-erased-there s Plugged h = absurd (true≢false h)
-erased-there s Full h = absurd (true≢false h)
+-- an order that raises nothing passed the tests, and is carried out
+pub carried-out : (s : Seat) (o : Order) (f : Fault) → commanded s o f .moved .raised ≡ false → commanded s o f ≡ ordered s o
+carried-out s o Fine h = refl
+carried-out s o Illegal h = absurd (true≢false h)
+carried-out s o Empty h = absurd (true≢false h)
+carried-out s o Plugged h = absurd (true≢false h)
+carried-out s o Full h = absurd (true≢false h)
 
-marked-there : (s : Seat) (f : Fault) → commanded s WriteMark f .moved .raised ≡ false → commanded s WriteMark f .tape ≡ withMark (s .drive) (s .tape)
-marked-there s Fine h = refl
-marked-there s Illegal h = absurd (true≢false h)
-marked-there s Empty h = absurd (true≢false h)
-marked-there s Plugged h = absurd (true≢false h)
-marked-there s Full h = absurd (true≢false h)
+tape-there : (s : Seat) (o : Order) (f : Fault) → commanded s o f .moved .raised ≡ false → commanded s o f .tape ≡ ordered s o .tape
+tape-there s o f h = ap (λ (m : Acted). m .tape) (carried-out s o f h)
 
 -- a line that falls while the drive is Writing leaves a mark, or raises EXCEPTION
 abbrev noRoom : Seat → Acted
@@ -153,10 +150,10 @@ module _ (c : Core) (l : Lent) (event : List ℕ) where
       record {
         erases = λ r.
             subst (λ (x : Act). act (staged x) s x .moved .raised ≡ false → act (staged x) s x .tape ≡ erased (s .tape))
-            (own-is (Command 34) a (sym (r .order) ∙ q)) (rw (orders .erase) (erased-there s (faultOf s Erase))) (silent (r .answer));
+            (own-is (Command 34) a (sym (r .order) ∙ q)) (rw (orders .erase) (tape-there s Erase (faultOf s Erase))) (silent (r .answer));
         marks = λ r.
             subst (λ (x : Act). act (staged x) s x .moved .raised ≡ false → act (staged x) s x .tape ≡ withMark (s .drive) (s .tape))
-            (own-is (Command 96) a (sym (r .order) ∙ q)) (rw (orders .mark) (marked-there s (faultOf s WriteMark))) (silent (r .answer));
+            (own-is (Command 96) a (sym (r .order) ∙ q)) (rw (orders .mark) (tape-there s WriteMark (faultOf s WriteMark))) (silent (r .answer));
         leavesMark = λ r.
             let w = writing-parts (s .drive) (r .writing) in
             let i = has-cartridge (s .drive .mode) (s .drive .loaded) (s .drive .protected) (k .fit (c .port .selected) .mode) (w .0) in
@@ -165,10 +162,10 @@ module _ (c : Core) (l : Lent) (event : List ℕ) where
             (subst (λ (m : Acted). m .moved .raised ≡ false → m .tape ≡ withMark (s .drive) (s .tape)) (left-is s (r .up) (w .1) i (w .0)) (left-there s))
             (silent (r .answer));
         blocks = λ b r.
-            let e = own-is (Give b) a (sym (r .byte) ∙ q) in
+            let e = own-is (Give b) a (sym (r .given .byte) ∙ q) in
             subst (λ (x : Act). act (staged x) s x .tape ≡ blockThere c l b) e
-            (last-there (staged (Give b)) s b (r .place) (r .room)
-            ∙ ap (λ (g : List ℕ). withBlock g (s .drive) (s .tape)) (last-staged c l (Give b) b refl (r .place)));
+            (last-there (staged (Give b)) s b (r .given .place) (r .room)
+            ∙ ap (λ (g : List ℕ). withBlock g (s .drive) (s .tape)) (last-staged c l (Give b) b refl (r .given .place)));
       }
     where
       s : Seat
@@ -183,7 +180,7 @@ module _ (c : Core) (l : Lent) (event : List ℕ) where
         erases = λ x. no (x .answer);
         marks = λ x. no (x .answer);
         leavesMark = λ x. no (x .answer);
-        blocks = λ b x. absurd (true≢false (sym r ∙ ap (λ (y : Answer). rowOf y .refuses) z ∙ x .taken));
+        blocks = λ b x. absurd (true≢false (sym r ∙ ap (λ (y : Answer). rowOf y .refuses) z ∙ x .given .taken));
       }
     where
       no : {A : Type 0} → answerTo c l event ≡ Taken → A
@@ -195,7 +192,7 @@ module _ (c : Core) (l : Lent) (event : List ℕ) where
         erases = λ x. not-own event e q n (x .order);
         marks = λ x. not-own event e q n (x .order);
         leavesMark = λ x. not-own event e q n (x .line);
-        blocks = λ b x. not-own event e q n (x .byte);
+        blocks = λ b x. not-own event e q n (x .given .byte);
       }
 
   effect-happens : (e : Event) → eventOf event ≡ e → Sound c l → refusalIn c e ≡ Taken

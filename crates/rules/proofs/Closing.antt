@@ -19,27 +19,21 @@ use Rattle.rules.specs.Online.{dropped}
 use Rattle.rules.specs.Step.{stepBy, stepOf}
 use Rattle.rules.specs.Promises.Runs.{command}
 use Rattle.rules.specs.Run.{after, turnOf, run}
-use Rattle.rules.specs.Promises.Strike.{Ready}
 use Rattle.rules.specs.Promises.Closing.{closed, threeBlocks, TrialComesBack}
 use Rattle.rules.proofs.Handed.{strike-handed-out}
 
--- at its beginning, ready to read
-at-start : Ready (run closed (command 33))
+-- from its beginning, ready to read
+pub trial-comes-back : TrialComesBack
 unfolding pick ofKind foundAt recorded walk trail counted oneOf putAt putLast bareEvent bodiedEvent eventOf possibleDrive possiblePhase possible
     short refusalOf linesOf orderOf illegal faultBy checked octetsOf faultOf stagedByte allowedAt goesOn afterBlock stored handed octetTaken
     dropped stepBy stepOf after turnOf
-at-start =
-    record {
+trial-comes-back =
+    strike-handed-out (run closed (command 33)) threeBlocks (refl, (refl, (refl, tt)))
+    (record {
       works = record { possible = refl; short = refl; whole = refl };
       rest = refl;
       online = refl;
       loaded = refl;
       idle = refl;
       calm = refl;
-    }
-
-pub trial-comes-back : TrialComesBack
-unfolding pick ofKind foundAt recorded walk trail counted oneOf putAt putLast bareEvent bodiedEvent eventOf possibleDrive possiblePhase possible
-    short refusalOf linesOf orderOf illegal faultBy checked octetsOf faultOf stagedByte allowedAt goesOn afterBlock stored handed octetTaken
-    dropped stepBy stepOf after turnOf
-trial-comes-back = strike-handed-out (run closed (command 33)) threeBlocks (refl, (refl, (refl, tt))) at-start refl
+    }) refl

@@ -1,7 +1,7 @@
 -- An order is illegal exactly by the first four tests, and then changes no tape.
 use Prim.Native.Nat.{ℕ, _≤_}
 use mathlib.Core.Path.{_≡_, refl, sym, ap, subst, _∙_}
-use mathlib.Core.Bool.{Bool, true, false, true≢false, false≢true}
+use mathlib.Core.Bool.{Bool, true, false, false≢true}
 use mathlib.Core.List.{List}
 use native.Mathlib.Omega.{arith}
 use lib.ListN.{length}
@@ -28,15 +28,14 @@ use Rattle.rules.specs.declared.order.Fault.{Fault}
 use Rattle.rules.specs.declared.order.Fault.the-variants.{Fine, Illegal, Empty, Plugged, Full}
 use Rattle.rules.specs.Drive.{latching, inMode, passedTo}
 use Rattle.rules.specs.Unit.{Lent, driveAt, putDrive, atPhase}
-use Rattle.rules.specs.Answer.{rowOf}
 use Rattle.rules.specs.Order.{orderOf}
 use Rattle.rules.specs.Edge.{halted, edged, checked, standing}
 use Rattle.rules.specs.Effect.{Seat, Acted, ordered, faultOf, commanded}
 use Rattle.rules.specs.Step.{stagedIn, seatOf, landed, effectOf}
 use Rattle.rules.specs.Promises.Orders.{fits5, fits6, fits7, firstFour, OnlyIll, IllegalRules, IllegalExactly}
 use Rattle.rules.proofs.Places.{Got, same, other, got, put-same, tape-back}
-use Rattle.rules.proofs.Sound.{Sound}
-use Rattle.rules.proofs.StepBy.{step-sound}
+use Rattle.rules.proofs.Sound.{Sound, sound}
+use Rattle.rules.proofs.StepBy.{effect-by}
 use Rattle.rules.proofs.Tests.{first-test-decides}
 
 -- ---- no other order latches ILL
@@ -131,6 +130,5 @@ effect-illegal : (c : Core) (l : Lent) (k : ℕ) → Sound c l → IllegalRules 
 effect-illegal c l k s = record { illegal = illegal-leaves c l k s; legal = legal-latches-none c l k }
 
 pub illegal-exactly : IllegalExactly
-illegal-exactly c l event k w q =
-    step-sound (λ s. rowOf (s .turn .answer) .refuses ≡ false → IllegalRules c l k s) c l event w
-    (λ a r h. absurd (true≢false (sym r ∙ h))) (λ s _ _. rw q (effect-illegal c l k s))
+illegal-exactly c l event k w q n =
+    effect-by (IllegalRules c l k) c l event (Own (Command k)) q n (λ p s _. effect-illegal c l k (sound c l p s w))

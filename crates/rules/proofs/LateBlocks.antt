@@ -1,6 +1,6 @@
 -- What stands behind a block that is recorded, and whether the WRITE goes on behind it.
 use Prim.Native.Nat.{ℕ, _+_, _≤_}
-use mathlib.Core.Path.{_≡_, refl, sym, ap, subst, _∙_}
+use mathlib.Core.Path.{_≡_, refl, sym, subst}
 use mathlib.Core.Bool.{Bool, true, false, _&&_, true≢false, false≢true}
 use mathlib.Core.List.{List}
 use native.Mathlib.Omega.{arith}
@@ -18,28 +18,24 @@ use Rattle.rules.specs.declared.drive.Bit.the-variants.{Eom}
 use Rattle.rules.specs.declared.unit.Port.{Port}
 use Rattle.rules.specs.declared.phase.Phase.the-variants.{Taking}
 use Rattle.rules.specs.declared.event.Act.the-variants.{Give}
-use Rattle.rules.specs.declared.event.Event.{Event}
 use Rattle.rules.specs.declared.event.Event.the-variants.{Own}
-use Rattle.rules.specs.declared.answer.Answer.{Answer}
 use Rattle.rules.specs.declared.answer.Answer.the-variants.{Taken, Raised}
 use Rattle.rules.specs.Drive.{made, stopping}
 use Rattle.rules.specs.Late.{blockRoom, oneLess, goesOn}
 use Rattle.rules.specs.Unit.{driveAt, tapeAt}
-use Rattle.rules.specs.Answer.{rowOf}
-use Rattle.rules.specs.Refusal.{refusalIn}
 use Rattle.rules.specs.Effect.{Seat, Acted, leaves, withBlock}
 use Rattle.rules.specs.Bytes.{afterBlock, stored}
-use Rattle.rules.specs.Step.{Stepped, act, stagedIn, seatOf, effectOf}
+use Rattle.rules.specs.Step.{act, stagedIn, seatOf, effectOf}
 use Rattle.rules.specs.Promises.Changes.{blockAsks}
 use Rattle.rules.specs.Promises.Orders.{fits7}
 use Rattle.rules.specs.Promises.Late.{Behind, ByteBehind, onwards, EomOrOn, EomExactly}
-use Rattle.basis.proofs.Choosing.{choice-holds}
+use Rattle.basis.proofs.Choosing.{picked, passed, choice-holds}
 use Rattle.rules.proofs.Places.{put-same}
-use Rattle.rules.proofs.Sound.{Sound}
+use Rattle.rules.proofs.Sound.{sound}
 use Rattle.rules.proofs.Rooms.{asks-is, room-asked, asked-room, room-behind}
 use Rattle.rules.proofs.Acts.{taking-writing}
-use Rattle.rules.proofs.StepBy.{in-step, step-sound, staged-sound}
-use Rattle.rules.proofs.Changes.{recording-cuts-off, quiet-answer}
+use Rattle.rules.proofs.StepBy.{in-step, effect-by, staged-sound}
+use Rattle.rules.proofs.Changes.{recording-cuts-off}
 
 -- ---- a block, and the byte behind it
 
@@ -78,18 +74,12 @@ given-behind g s b e p r = rw p (stored-behind g _ (s .drive) (s .tape) e r)
 
 pub byte-behind : ByteBehind
 byte-behind c l event b w x =
-    step-sound (λ s. rowOf (s .turn .answer) .refuses ≡ false → There s) c l event w (λ a r z. absurd (true≢false (sym r ∙ z)))
-    (λ k h _. subst (λ (e : Event). There (effectOf c l e)) (sym (x .byte)) (there k)) (x .taken)
+    effect-by (λ s. Behind (driveAt (s .turn .core) n) (tapeAt (s .lent) n) (driveAt c n .head)) c l event (Own (Give b)) (x .given .byte) (x .given .taken)
+    (λ p q h. let k = staged-sound c l (Give b) (sound c l p q w) in
+    rw (put-same, put-same) (given-behind (stagedIn c (Give b) l .staging) (seatOf c l) b (k .whole) (x .given .place) (x .room)))
   where
     n : ℕ
     n = c .port .selected
-
-    There : Stepped → Type 0
-    There s = Behind (driveAt (s .turn .core) n) (tapeAt (s .lent) n) (driveAt c n .head)
-
-    there : Sound c l → There (effectOf c l (Own (Give b)))
-    there k =
-        rw (put-same, put-same) (given-behind (stagedIn c (Give b) l .staging) (seatOf c l) b (staged-sound c l (Give b) k .whole) (x .place) (x .room))
 
 -- ---- EOM, or the WRITE goes on
 
@@ -127,27 +117,22 @@ given-ends : (g : List ℕ) (s : Seat) (b : ℕ) → length g ≡ 512 → s .dri
 unfolding pick
 given-ends g s b e w p = rw p (stored-ends g _ (s .drive) (s .tape) e w)
 
-raised-answer : (b : Bool) → b ≡ true → pick b Raised Taken ≡ Raised
-unfolding pick
-raised-answer b e = rw e
-
 pub eom-exactly : EomExactly
 eom-exactly c l event b w x =
-    step-sound (λ s. rowOf (s .turn .answer) .refuses ≡ false → There s) c l event w (λ a r z. absurd (true≢false (sym r ∙ z)))
-    (λ k h _. subst (λ (e : Event). refusalIn c e ≡ Taken → There (effectOf c l e)) (sym (x .byte)) (there k) h) (x .taken)
+    effect-by (λ s. EomOrOn (driveAt c n) (driveAt (s .turn .core) n) (length (tapeAt l n)) (s .turn .answer)) c l event (Own (Give b)) (x .byte) (x .taken)
+    (λ p q h. there (staged-sound c l (Give b) (sound c l p q w) .whole) (taking-writing (c .port .phase) (driveAt c n) (in-step _ h)))
   where
     n : ℕ
     n = c .port .selected
 
-    There : Stepped → Type 0
-    There s = EomOrOn (driveAt c n) (driveAt (s .turn .core) n) (length (tapeAt l n)) (s .turn .answer)
+    m : Acted
+    m = act (stagedIn c (Give b) l .staging) (seatOf c l) (Give b)
 
-    there : Sound c l → refusalIn c (Own (Give b)) ≡ Taken → There (effectOf c l (Own (Give b)))
-    there k h =
-        let g = stagedIn c (Give b) l .staging in
-        let w = taking-writing (c .port .phase) (driveAt c n) (in-step _ h) in
-        let ends = given-ends g (seatOf c l) b (staged-sound c l (Give b) k .whole) w (x .place) in
+    there : length (stagedIn c (Give b) l .staging) ≡ 512 → driveAt c n .mode ≡ Writing
+        → EomOrOn (driveAt c n) (driveAt (effectOf c l (Own (Give b)) .turn .core) n) (length (tapeAt l n)) (pick (m .moved .raised) Raised Taken)
+    there e v =
+        let ends = given-ends (stagedIn c (Give b) l .staging) (seatOf c l) b e v (x .place) in
         record {
-          on = λ z. let y = ends .on z in (quiet-answer _ (y .0), rw put-same (y .1));
-          eom = λ z. let y = ends .eom z in (raised-answer _ (y .0), rw put-same (y .1), rw put-same (y .2));
+          on = λ z. let y = ends .on z in (sym (passed _ _ _ (y .0)), rw put-same (y .1));
+          eom = λ z. let y = ends .eom z in (sym (picked _ _ _ (y .0)), rw put-same (y .1), rw put-same (y .2));
         }

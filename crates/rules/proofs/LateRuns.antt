@@ -16,19 +16,15 @@ use Rattle.rules.specs.declared.event.Event.{Event}
 use Rattle.rules.specs.declared.event.Event.the-variants.{NoEvent, Reset, Named, Own}
 use Rattle.rules.specs.declared.order.Order.{Order}
 use Rattle.rules.specs.declared.order.Order.the-variants.{Write}
-use Rattle.rules.specs.declared.order.Fault.{Fault}
-use Rattle.rules.specs.declared.order.Fault.the-variants.{Fine, Illegal, Empty, Plugged, Full}
-use Rattle.rules.specs.declared.answer.Answer.{Answer}
 use Rattle.rules.specs.declared.answer.Answer.the-variants.{Taken}
 use Rattle.rules.specs.Drive.{isWriting}
 use Rattle.rules.specs.Late.{allowedAt}
 use Rattle.rules.specs.Unit.{Lent, Whole, driveAt, tapeAt}
 use Rattle.rules.specs.Event.{eventOf}
-use Rattle.rules.specs.Answer.{rowOf}
 use Rattle.rules.specs.Refusal.{possiblePhase, refusalIn}
 use Rattle.rules.specs.Order.{orderOf}
-use Rattle.rules.specs.Effect.{Seat, faultOf, commanded}
-use Rattle.rules.specs.Step.{Stepped, act, stagedIn, seatOf, effectOf}
+use Rattle.rules.specs.Effect.{Acted, ordered, faultOf, commanded}
+use Rattle.rules.specs.Step.{act, stagedIn, seatOf, effectOf}
 use Rattle.rules.specs.Run.{World, after, turnOf}
 use Rattle.rules.specs.Promises.Changes.{Accepted}
 use Rattle.rules.specs.Promises.Status.{driveAfter}
@@ -40,42 +36,27 @@ use Rattle.rules.proofs.Rooms.{two-late}
 use Rattle.rules.proofs.Codes.{orders}
 use Rattle.rules.proofs.Acts.{writing-is, taking-writing}
 use Rattle.rules.proofs.Refused.{quiet-is}
-use Rattle.rules.proofs.StepBy.{in-step, step-sound, sound-step}
+use Rattle.rules.proofs.StepBy.{in-step, effect-by, sound-step}
 use Rattle.rules.proofs.Keeps.{step-stays-sound}
+use Rattle.rules.proofs.Changes.{carried-out}
 use Rattle.rules.proofs.Status.{own-drive}
 use Rattle.rules.proofs.Lates.{quits, late-moves}
 
 -- ---- a WRITE that is accepted
 
-write-begins : (s : Seat) (f : Fault) → commanded s Write f .moved .raised ≡ false
-    → commanded s Write f .moved .drive .late ≡ allowedAt (s .drive .head) (length (s .tape))
-write-begins s Fine h = refl
-write-begins s Illegal h = absurd (true≢false h)
-write-begins s Empty h = absurd (true≢false h)
-write-begins s Plugged h = absurd (true≢false h)
-write-begins s Full h = absurd (true≢false h)
-
-order-begins : (s : Seat) (o : Order) → o ≡ Write → commanded s o (faultOf s o) .moved .raised ≡ false
-    → commanded s o (faultOf s o) .moved .drive .late ≡ allowedAt (s .drive .head) (length (s .tape))
-order-begins s o e =
-    subst (λ (x : Order). commanded s x (faultOf s x) .moved .raised ≡ false
-    → commanded s x (faultOf s x) .moved .drive .late ≡ allowedAt (s .drive .head) (length (s .tape))) (sym e) (write-begins s (faultOf s Write))
-
-accepted-begins : (c : Core) (l : Lent) (event : List ℕ) → Whole l → Accepted c l event 64
+accepted-begins : (c : Core) (l : Lent) (event : List ℕ) → Accepted c l event 64
     → driveAfter c l event (c .port .selected) .late ≡ allowedAt (driveAt c (c .port .selected) .head) (length (tapeAt l (c .port .selected)))
-accepted-begins c l event w x =
-    step-sound (λ s. s .turn .answer ≡ Taken → Begun s) c l event w
-    (λ a r z. absurd (true≢false (sym r ∙ ap (λ (y : Answer). rowOf y .refuses) z)))
-    (λ k h. subst (λ (e : Event). effectOf c l e .turn .answer ≡ Taken → Begun (effectOf c l e)) (sym (x .order)) begins) (x .answer)
+accepted-begins c l event x =
+    effect-by (λ s. s .turn .answer ≡ Taken → driveAt (s .turn .core) n .late ≡ allowedAt (driveAt c n .head) (length (tapeAt l n))) c l event
+    (Own (Command 64)) (x .order) (rw (x .answer))
+    (λ _ _ _ z. rw put-same (begins (orderOf 64) (orders .write) (quiet-is _ z))) (x .answer)
   where
     n : ℕ
     n = c .port .selected
 
-    Begun : Stepped → Type 0
-    Begun s = driveAt (s .turn .core) n .late ≡ allowedAt (driveAt c n .head) (length (tapeAt l n))
-
-    begins : effectOf c l (Own (Command 64)) .turn .answer ≡ Taken → Begun (effectOf c l (Own (Command 64)))
-    begins z = rw put-same (order-begins (seatOf c l) (orderOf 64) (orders .write) (quiet-is _ z))
+    begins : (o : Order) → o ≡ Write → commanded (seatOf c l) o (faultOf (seatOf c l) o) .moved .raised ≡ false
+        → commanded (seatOf c l) o (faultOf (seatOf c l) o) .moved .drive .late ≡ allowedAt (driveAt c n .head) (length (tapeAt l n))
+    begins o e h = ap (λ (m : Acted). m .moved .drive .late) (carried-out (seatOf c l) o (faultOf (seatOf c l) o) h ∙ ap (ordered (seatOf c l)) e)
 
 -- ---- a byte given moves no drive that is not Writing
 
@@ -146,7 +127,7 @@ module _ (w : World) (e : List ℕ) (i : ℕ) (r : i ≤ 3) (k : Sound (w .core)
   stays-late : Late d → acceptsWrite i w e ≡ false → LateMove (w .core) (w .lent) e i d d′ → Late d′
   stays-late f n (ended x z) = λ m. absurd (x m)
   stays-late f n (begun s a z) = begun-seen n s a
-  stays-late f n (counted s b x more h z) = λ m. omega (arith, f (last-writing s (x .place)), more, z)
+  stays-late f n (counted s b x more h z) = λ m. omega (arith, f (last-writing s (x .given .place)), more, z)
   stays-late f n (kept m h z) = λ m′. omega (arith, f m, z)
 
   -- what is recorded now and what is still to come are no more than was allowed
@@ -158,7 +139,7 @@ module _ (w : World) (e : List ℕ) (i : ℕ) (r : i ≤ 3) (k : Sound (w .core)
       go true q = omega (arith, one-at-most (recordsOn i w e), f (writing-is (d .mode) q), few, z)
       go false q = omega (arith, none-recorded q, few, z)
   fewer rest f n few (begun s a z) = begun-seen n s a
-  fewer rest f n few (counted s b x more h z) = omega (arith, one-at-most (recordsOn i w e), f (last-writing s (x .place)), few, z)
+  fewer rest f n few (counted s b x more h z) = omega (arith, one-at-most (recordsOn i w e), f (last-writing s (x .given .place)), few, z)
   fewer rest f n few (kept m h z) = omega (arith, no-further (isAct isGive (eventOf e)) (d .head) (d′ .head) h, few, z)
 
 at-most : (es : List (List ℕ)) (w : World) (i : ℕ) → i ≤ 3 → Sound (w .core) (w .lent) → Late (driveAt (w .core) i)
@@ -180,6 +161,6 @@ unfolding after
 at-most-two w e k x short es =
     let n = w .core .port .selected in
     let s = sound (w .core) (w .lent) (k .possible) (k .short) (k .whole) in
-    let late : driveAt (after w e .core) n .late ≡ 2 = accepted-begins (w .core) (w .lent) e (k .whole) x ∙ two-late (driveOf w .head) (length (tapeOf w)) short in
+    let late : driveAt (after w e .core) n .late ≡ 2 = accepted-begins (w .core) (w .lent) e x ∙ two-late (driveOf w .head) (length (tapeOf w)) short in
     let few = at-most es (after w e) n (s .sel) (step-stays-sound (w .core) (w .lent) e s) (λ _. omega (arith, late)) in
     omega (arith, few, late)

@@ -87,7 +87,7 @@ raised-off t d = go (foundAt t (d .head))
     go (Stop w) r = halted-off w d
 
 -- what WRITE allows, in numbers
-pub allowed-is : (h n : ℕ) → allowedAt h n ≡ pick (leb (h + 1541) n) 0 2
+allowed-is : (h n : ℕ) → allowedAt h n ≡ pick (leb (h + 1541) n) 0 2
 unfolding pick allowedAt
 allowed-is h n = refl
 
@@ -131,7 +131,7 @@ module _ (c : Core) (l : Lent) (event : List ℕ) where
   own-late g f a m q h (Acts.finds-no-room k) = off n d _ (record { mode = refl; late = refl })
   own-late g f a m q h (Acts.stages b k r w) = still n d _ f refl refl (λ _. refl)
   own-late g f a m q h (Acts.records-block b p w r more) =
-      counted refl b (record { byte = q; place = p; taken = rw h (taken-not-refused false); room = r }) more refl refl
+      counted refl b (record { given = record { byte = q; place = p; taken = rw h (taken-not-refused false) }; room = r }) more refl refl
   own-late g f a m q h (Acts.records-last b p w r) = off n d _ (record { mode = refl; late = refl })
   own-late g f a m q h (Acts.drops-block b) = off n d _ (record { mode = refl; late = refl })
   own-late g f a m q h (Acts.hands-octet k e) = still n d _ f refl refl (λ _. refl)

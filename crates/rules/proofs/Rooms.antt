@@ -6,7 +6,7 @@ use native.Mathlib.Omega.{arith}
 use lib.Dec.{leb, eqb}
 use borrow.Author.Tests.{leb-true, le-leb, lt-leb, eqb-true, eq-eqb}
 use Rattle.basis.specs.Choice.{pick}
-use Rattle.basis.proofs.Choosing.{both}
+use Rattle.basis.proofs.Choosing.{both, choice-holds}
 use Rattle.rules.specs.declared.drive.Drive.{Drive}
 use Rattle.rules.specs.declared.drive.Mode.{Mode}
 use Rattle.rules.specs.declared.drive.Mode.the-variants.{Idle, Writing, Reading}
@@ -31,13 +31,8 @@ pub asked-room : (late h n : ℕ) → h + blockAsks late ≤ n → blockRoom lat
 asked-room late h n r = le-leb (h + (513 + spareOf late)) n (rw (asks-is late) at r)
 
 -- a block, and a byte behind it
-pub asks-more : (late : ℕ) → 514 ≤ blockAsks late
-unfolding pick
-asks-more late = go (eqb late 0)
-  where
-    go : (b : Bool) → 514 ≤ pick b 1541 514
-    go true = omega arith
-    go false = omega arith
+asks-more : (late : ℕ) → 514 ≤ blockAsks late
+asks-more late = choice-holds (λ (n : ℕ). 514 ≤ n) (eqb late 0) (omega arith) (omega arith)
 
 pub room-behind : (late h n : ℕ) → h + blockAsks late ≤ n → h + 514 ≤ n
 room-behind late h n r = omega (arith, r, asks-more late)
@@ -52,12 +47,8 @@ unfolding pick allowedAt
 two-late h n r = rw (lt-leb (h + 1541) n r)
 
 pub allowed-fits : (h n : ℕ) → leb (allowedAt h n) 2 ≡ true
-unfolding pick allowedAt
-allowed-fits h n = go (blockRoom 0 h n)
-  where
-    go : (b : Bool) → leb (pick b 0 2) 2 ≡ true
-    go true = refl
-    go false = refl
+unfolding allowedAt
+allowed-fits h n = choice-holds (λ (k : ℕ). leb k 2 ≡ true) (blockRoom 0 h n) refl refl
 
 -- one less is possible where so many are; where there are none it is none
 pub less-fits : (m : Mode) (late : ℕ) → lateFits m late ≡ true → lateFits m (late - 1) ≡ true
@@ -82,9 +73,4 @@ not-last late h n g e = true≢false (sym (both (not (eqb late 1)) (blockRoom la
 
 -- what is kept behind a block is never more than 1028 bytes
 pub spare-small : (late : ℕ) → spareOf late ≤ 1028
-unfolding pick
-spare-small late = go (eqb late 0)
-  where
-    go : (b : Bool) → pick b 1028 1 ≤ 1028
-    go true = omega arith
-    go false = omega arith
+spare-small late = choice-holds (λ (n : ℕ). n ≤ 1028) (eqb late 0) (omega arith) (omega arith)

@@ -23,11 +23,11 @@ use Rattle.rules.specs.Promises.Samples.{Samples}
 use Rattle.rules.specs.Promises.Runs.{StarredRunsHold, RunsToCheckHold}
 use Rattle.rules.specs.Promises.Closing.{WarningComes, TrialCloses}
 
-all-hold : StarredRunsHold × RunsToCheckHold × Samples
+all-hold : StarredRunsHold × RunsToCheckHold × Samples × WarningComes × TrialCloses
 unfolding pick ofKind foundAt recorded walk trail counted oneOf putAt putLast bareEvent bodiedEvent eventOf possibleDrive possiblePhase possible
     short refusalOf linesOf orderOf illegal faultBy checked octetsOf faultOf stagedByte allowedAt goesOn afterBlock stored handed octetTaken
     dropped stepBy stepOf after turnOf reaches
-all-hold = (refl, refl, record { plain = refl; busy = refl; busyTape = refl; shorter = refl; shorterTape = refl })
+all-hold = (refl, refl, record { plain = refl; busy = refl; busyTape = refl; shorter = refl; shorterTape = refl }, refl, refl)
 
 pub starred-runs-hold : StarredRunsHold
 starred-runs-hold = all-hold .0
@@ -39,13 +39,7 @@ pub samples : Samples
 samples = all-hold .2
 
 pub warning-comes : WarningComes
-unfolding pick ofKind foundAt recorded walk trail counted oneOf putAt putLast bareEvent bodiedEvent eventOf possibleDrive possiblePhase possible
-    short refusalOf linesOf orderOf illegal faultBy checked octetsOf faultOf stagedByte allowedAt goesOn afterBlock stored handed octetTaken
-    dropped stepBy stepOf after turnOf reaches
-warning-comes = refl
+warning-comes = all-hold .3
 
 pub trial-closes : TrialCloses
-unfolding pick ofKind foundAt recorded walk trail counted oneOf putAt putLast bareEvent bodiedEvent eventOf possibleDrive possiblePhase possible
-    short refusalOf linesOf orderOf illegal faultBy checked octetsOf faultOf stagedByte allowedAt goesOn afterBlock stored handed octetTaken
-    dropped stepBy stepOf after turnOf reaches
-trial-closes = refl
+trial-closes = all-hold .4

@@ -1,7 +1,7 @@
 -- One event: refused in one of the ways, or taken in a sound world. Every promise of a step goes by these two.
 use Prim.Native.Nat.{ℕ}
-use mathlib.Core.Path.{_≡_, refl, sym, _∙_}
-use mathlib.Core.Bool.{Bool, true, false, not, false≢true}
+use mathlib.Core.Path.{_≡_, refl, sym, subst, _∙_}
+use mathlib.Core.Bool.{Bool, true, false, not, true≢false, false≢true}
 use mathlib.Core.List.{List}
 use lib.ListN.{length, length-set}
 use Rattle.basis.specs.Choice.{pick}
@@ -95,6 +95,14 @@ step-sound P c l event w f g = step-by P c l event f (λ p q r. g (sound c l p q
 pub sound-step : (P : Stepped → Type 0) (c : Core) (l : Lent) (event : List ℕ) → Whole l → ((a : Answer) → P (refused a c l))
     → (Sound c l → refusalIn c (eventOf event) ≡ Taken → P (effectOf c l (eventOf event))) → P (stepOf c l event)
 sound-step P c l event w f g = step-sound P c l event w (λ a _. f a) g
+
+-- an event that is not refused does what its effect is
+pub effect-by : (P : Stepped → Type 0) (c : Core) (l : Lent) (event : List ℕ) (e : Event) → eventOf event ≡ e
+    → rowOf (stepOf c l event .turn .answer) .refuses ≡ false
+    → (possible c ≡ true → short l ≡ true → refusalIn c e ≡ Taken → P (effectOf c l e)) → P (stepOf c l event)
+effect-by P c l event e q n f =
+    step-by (λ s. rowOf (s .turn .answer) .refuses ≡ false → P s) c l event (λ a r z. absurd (true≢false (sym r ∙ z)))
+    (λ p s h _. subst (λ (x : Event). refusalIn c x ≡ Taken → P (effectOf c l x)) (sym q) (f p s) h) n
 
 -- a byte staged leaves the block's length, and so a sound world
 staged-length : (ph : Phase) (a : Act) (g : List ℕ) → length (staged ph a g) ≡ length g

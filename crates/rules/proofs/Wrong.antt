@@ -1,7 +1,7 @@
 -- Easy to get wrong: the laws, from the promises and from what the events do.
 use Prim.Native.Nat.{ℕ, _+_, _≤_}
-use mathlib.Core.Path.{_≡_, refl, sym, ap, subst, _∙_}
-use mathlib.Core.Bool.{Bool, true, false, not, true≢false}
+use mathlib.Core.Path.{_≡_, refl, sym, subst, _∙_}
+use mathlib.Core.Bool.{Bool, true, false, not}
 use mathlib.Core.List.{List, [], _∷_}
 use native.Mathlib.Omega.{arith}
 use lib.Dec.{eqb}
@@ -22,12 +22,10 @@ use Rattle.rules.specs.declared.order.Order.{Order}
 use Rattle.rules.specs.declared.order.Order.the-variants.{WriteMark}
 use Rattle.rules.specs.declared.order.Fault.{Fault}
 use Rattle.rules.specs.declared.order.Fault.the-variants.{Fine, Illegal, Empty, Plugged, Full}
-use Rattle.rules.specs.declared.answer.Answer.{Answer}
 use Rattle.rules.specs.declared.answer.Answer.the-variants.{Taken, Raised}
 use Rattle.rules.specs.Drive.{counted}
 use Rattle.rules.specs.Unit.{Lent, Whole, driveAt, tapeAt}
 use Rattle.rules.specs.Event.{eventOf}
-use Rattle.rules.specs.Answer.{rowOf}
 use Rattle.rules.specs.Refusal.{refusalIn}
 use Rattle.rules.specs.Octets.{bit0, bit1, bit2, bit3, bit4, bit5, bit7, bit, octetsOf, octet0, cni}
 use Rattle.rules.specs.Effect.{Seat, Acted, faultOf, commanded}
@@ -39,18 +37,10 @@ use Rattle.rules.proofs.Places.{put-same}
 use Rattle.rules.proofs.Codes.{orders}
 use Rattle.rules.proofs.Acts
 use Rattle.rules.proofs.Sound.{Sound}
-use Rattle.rules.proofs.StepBy.{step-by, step-sound, own-does}
+use Rattle.rules.proofs.StepBy.{step-sound, effect-by, own-does}
 use Rattle.rules.proofs.Keeps.{staging-stays-whole}
 use Rattle.rules.proofs.Status.{cleared-only}
 use Rattle.rules.proofs.Plug.{other-drives-stay}
-
--- an answer of 0 or 1 comes of the effect
-effect-by : (P : Stepped → Type 0) (c : Core) (l : Lent) (event : List ℕ) (e : Event) → eventOf event ≡ e → (a : Answer)
-    → rowOf a .refuses ≡ false → stepOf c l event .turn .answer ≡ a
-    → (effectOf c l e .turn .answer ≡ a → P (effectOf c l e)) → P (stepOf c l event)
-effect-by P c l event e q a n h f =
-    step-by (λ s. s .turn .answer ≡ a → P s) c l event (λ b r z. absurd (true≢false (sym r ∙ ap (λ (x : Answer). rowOf x .refuses) z ∙ n)))
-    (λ p s r. subst (λ (x : Event). effectOf c l x .turn .answer ≡ a → P (effectOf c l x)) (sym q) f) h
 
 -- ---- CNI
 
@@ -65,7 +55,7 @@ pulled-latches : (w : World) (i : ℕ) (e : List ℕ) → eventOf e ≡ Named i 
     → driveAt (after w e .core) i .latched .cni ≡ true
 unfolding after turnOf
 pulled-latches w i e q h =
-    effect-by (λ s. driveAt (s .turn .core) i .latched .cni ≡ true) (w .core) (w .lent) e (Named i Out) q Raised refl h (λ _. rw put-same)
+    effect-by (λ s. driveAt (s .turn .core) i .latched .cni ≡ true) (w .core) (w .lent) e (Named i Out) q (rw h) (λ _ _ _. rw put-same)
 
 bit-most : (w : ℕ) (b : Bool) → bit w b ≤ w
 bit-most w true = omega arith
@@ -101,7 +91,7 @@ count-waits : (w : World) (i : ℕ) (e : List ℕ) (what : What) (mine others : 
     → Counted (w .core) i mine others (effectOf (w .core) (w .lent) (Named i what)) → CountWaits w e i mine others
 unfolding after turnOf
 count-waits w i e what mine others q h c =
-    let r = effect-by (Counted (w .core) i mine others) (w .core) (w .lent) e (Named i what) q Taken refl h (λ _. c) in
+    let r = effect-by (Counted (w .core) i mine others) (w .core) (w .lent) e (Named i what) q (rw h) (λ _ _ _. c) in
     record { port = r .port; count = r .count; beside = r .beside }
 
 pub underrun-waits : UnderrunWaits
@@ -121,7 +111,7 @@ record Placed (l : Lent) (b : ℕ) (s : Stepped) : Type 0 where
 pub first-byte-first : FirstByteFirst
 unfolding after turnOf pick stagedByte
 first-byte-first w b e q h r =
-    let p = effect-by (Placed (w .lent) b) (w .core) (w .lent) e (Own (Give b)) q Taken refl h (λ _. record { staging = rw r; phase = rw r }) in
+    let p = effect-by (Placed (w .lent) b) (w .core) (w .lent) e (Own (Give b)) q (rw h) (λ _ _ _. record { staging = rw r; phase = rw r }) in
     record { staging = p .staging; phase = p .phase }
 
 pub offline-rewinds-no-other : OfflineRewindsNoOther
@@ -173,7 +163,8 @@ idle-drop c l event k q i =
 pub one-mark-only : OneMarkOnly
 unfolding after turnOf
 one-mark-only w k e f q h p =
-    let m = effect-by (Marked (w .core) (w .lent)) (w .core) (w .lent) e (Own (Command 96)) q Taken refl h (marks (w .core) (w .lent)) in
+    let m = effect-by (λ s. s .turn .answer ≡ Taken → Marked (w .core) (w .lent) s) (w .core) (w .lent) e (Own (Command 96)) q (rw h)
+    (λ _ _ _. marks (w .core) (w .lent)) h in
     let n = w .core .port .selected in
     let x = after w e in
     subst (λ (j : ℕ). tapeAt (after x f .lent) j ≡ tapeAt (x .lent) j) (m .selected)

@@ -23,11 +23,11 @@ use Rattle.rules.specs.Promises.Orders.{IllegalRules}
 use Rattle.rules.specs.Promises.Status.{ByStatus}
 use Rattle.rules.specs.Promises.BadKinds.{KindTold}
 use Rattle.rules.specs.Promises.Plug.{meansDrive}
-use Rattle.rules.specs.Promises.Changes.{LastByte, Happens}
+use Rattle.rules.specs.Promises.Changes.{LastGiven, LastByte, Happens}
 use Rattle.rules.specs.Promises.Changes
 use Rattle.rules.specs.Promises.Events.{joined}
 use Rattle.rules.specs.Promises.Strike.{driveOf, tapeOf, MayRecord, AllWhole, AllTaken, recording, reading, Back, passing, HandedOut, bytesOf, handedBy}
-use Rattle.rules.specs.Promises.Late.{LateMove, Behind, LastGiven, EomOrOn, AtMostTwo}
+use Rattle.rules.specs.Promises.Late.{LateMove, Behind, EomOrOn, AtMostTwo}
 use Rattle.rules.specs.Promises.Demand3.{Alike}
 use Rattle.rules.specs.Ran.{Ran, RunsAreTheBooks}
 

@@ -38,11 +38,15 @@ pub record LineFalls (c : Core) (l : Lent) (event : List ℕ) : Type 0 where
 abbrev pub blockAsks : ℕ → ℕ
 blockAsks late = pick (eqb late 0) 1541 514
 
--- The 512th byte of a block, with room: it is taken, whether or not EOM follows.
-pub record LastByte (c : Core) (l : Lent) (event : List ℕ) (b : ℕ) : Type 0 where
+-- The 512th byte of a block is given and taken, with room for the block or without.
+pub record LastGiven (c : Core) (l : Lent) (event : List ℕ) (b : ℕ) : Type 0 where
   pub byte : eventOf event ≡ Own (Give b)
   pub place : c .port .phase ≡ Taking 511
   pub taken : rowOf (answerTo c l event) .refuses ≡ false
+
+-- The same with room, whether or not EOM follows.
+pub record LastByte (c : Core) (l : Lent) (event : List ℕ) (b : ℕ) : Type 0 where
+  pub given : LastGiven c l event b
   pub room : driveAt c (c .port .selected) .head + blockAsks (driveAt c (c .port .selected) .late) ≤ length (tapeAt l (c .port .selected))
 
 -- The tape with every byte 0; with a mark at the head; and with a block, whose last byte is b and whose others are the 511 given before.

@@ -1,4 +1,4 @@
--- Past early warning: how the late blocks that a drive allows may move, what stands behind a block, and how many a WRITE takes.
+-- Past early warning: how the late blocks that a drive allows may move, what stands behind a block, where EOM comes, and how many a WRITE takes.
 use Prim.Native.Nat.{ℕ, _+_, _-_, _≤_, _<_}
 use mathlib.Core.Path.{_≡_}
 use mathlib.Core.Bool.{Bool, true, false, not, _&&_}
@@ -12,7 +12,6 @@ use Rattle.tape.specs.Record.{foundAt}
 use Rattle.rules.specs.declared.drive.Drive.{Drive}
 use Rattle.rules.specs.declared.drive.Mode.the-variants.{Idle, Writing}
 use Rattle.rules.specs.declared.unit.Core.{Core}
-use Rattle.rules.specs.declared.phase.Phase.the-variants.{Taking}
 use Rattle.rules.specs.declared.event.Act.{Act}
 use Rattle.rules.specs.declared.event.Act.the-variants.{Command, Give, Take, Online, Offline}
 use Rattle.rules.specs.declared.event.Event.{Event}
@@ -21,14 +20,13 @@ use Rattle.rules.specs.declared.answer.Answer.{Answer}
 use Rattle.rules.specs.declared.answer.Answer.the-variants.{Taken, Raised}
 use Rattle.rules.specs.Unit.{Lent, Whole, driveAt, tapeAt}
 use Rattle.rules.specs.Event.{eventOf}
-use Rattle.rules.specs.Answer.{rowOf}
 use Rattle.rules.specs.Refusal.{possible}
 use Rattle.rules.specs.Reach.{accepted}
 use Rattle.rules.specs.Run.{World, after, turnOf}
 use Rattle.rules.specs.Promises.Table.{answerTo}
 use Rattle.rules.specs.Promises.Status.{driveAfter}
 use Rattle.rules.specs.Promises.Plug.{tapeAfter}
-use Rattle.rules.specs.Promises.Changes.{Accepted, blockAsks, LastByte}
+use Rattle.rules.specs.Promises.Changes.{Accepted, blockAsks, LastGiven, LastByte}
 use Rattle.rules.specs.Promises.Orders.{fits7}
 use Rattle.rules.specs.Promises.Strike.{driveOf, tapeOf, Works}
 
@@ -63,12 +61,6 @@ abbrev pub ByteBehind : Type 0
 ByteBehind =
     (c : Core) (l : Lent) (event : List ℕ) (b : ℕ) → Whole l → LastByte c l event b
     → Behind (driveAfter c l event (c .port .selected)) (tapeAfter c l event (c .port .selected)) (driveAt c (c .port .selected) .head)
-
--- The 512th byte, given to the selected drive and taken, with room for its block or without.
-pub record LastGiven (c : Core) (l : Lent) (event : List ℕ) (b : ℕ) : Type 0 where
-  pub byte : eventOf event ≡ Own (Give b)
-  pub place : c .port .phase ≡ Taking 511
-  pub taken : rowOf (answerTo c l event) .refuses ≡ false
 
 -- The WRITE goes on behind it: the block has room, it is not the last late one, and the next one has room by the same test.
 abbrev pub onwards : Drive → ℕ → Bool

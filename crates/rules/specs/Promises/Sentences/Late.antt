@@ -2,13 +2,12 @@
 use Prim.Native.Nat.{ℕ, _+_}
 use mathlib.Core.Bool.{false}
 use mathlib.Core.List.{List, [], _∷_, _++_}
-use lib.ListN.{replicate}
 use Rattle.rules.specs.declared.drive.Drive.{Drive}
 use Rattle.rules.specs.declared.drive.Mode.the-variants.{Idle, Writing, Reading}
 use Rattle.rules.specs.declared.phase.Phase.the-variants.{Rest, Taking, Status}
 use Rattle.rules.specs.declared.answer.Lines.{Lines}
 use Rattle.rules.specs.Promises.Events.{joined, give, fetch, rise, fall, pull, error}
-use Rattle.rules.specs.Promises.Sentences.Form.{says, hands, R, RD, E, O, Case, row}
+use Rattle.rules.specs.Promises.Sentences.Form.{says, hands, R, E, O, Case, row}
 use Rattle.rules.specs.Promises.Sentences.Scene.{up, low, none, cni, eom, fil, ill, also, recordOf, quiet, loud, allows, late, loudLate, ramp, odd, lead}
 use Rattle.rules.specs.Promises.Sentences.Scene.{scene, gone, free}
 use Rattle.rules.specs.Promises.Sentences.State.{resets}
