@@ -3,6 +3,14 @@
 #include <stdlib.h>
 #include <time.h>
 
+// What is measured: nanoseconds of one way, and the things that they are for.
+struct subject {
+    double (*time_of)(const struct subject *s, size_t way);
+    const struct input *whole, *less;
+    const struct blocks *blocks;
+    double things;
+};
+
 static double now(void) {
     struct timespec t;
     clock_gettime(CLOCK_MONOTONIC, &t);
@@ -16,9 +24,31 @@ static double time_of(enum way way, const struct input *in) {
     return now() - from;
 }
 
+static double time_of_events(const struct subject *s, size_t way) {
+    double ns = time_of((enum way)way, s->whole);
+    return s->less ? ns - time_of((enum way)way, s->less) : ns;
+}
+
+static double time_of_blocks(const struct subject *s, size_t way) {
+    restore();
+    double from = now();
+    move_blocks((enum mover)way, s->blocks);
+    return now() - from;
+}
+
 static int rising(const void *a, const void *b) {
     double x = *(const double *)a, y = *(const double *)b;
     return (x > y) - (x < y);
+}
+
+static void take_rounds(const struct subject *s, size_t rounds, size_t ways, struct times *t) {
+    t->rounds = rounds;
+    for (size_t k = 0; k < rounds; k++)
+        for (size_t i = 0; i < ways; i++) {
+            size_t way = (i + k) % ways;
+            t->ns[way][k] = s->time_of(s, way) / s->things;
+        }
+    for (size_t way = 0; way < ways; way++) qsort(t->ns[way], rounds, sizeof(double), rising);
 }
 
 void measure(const struct row *row, size_t rounds, size_t ways, struct times *t) {
@@ -27,17 +57,18 @@ void measure(const struct row *row, size_t rounds, size_t ways, struct times *t)
     add_start(&less);
     double things = (double)row->make(&whole, row->times, false) * row->per;
     row->make(&less, row->times, true);
-    t->rounds = rounds;
-    for (size_t k = 0; k < rounds; k++)
-        for (size_t i = 0; i < ways; i++) {
-            enum way way = (enum way)((i + k) % ways);
-            double ns = time_of(way, &whole);
-            if (row->subtract) ns -= time_of(way, &less);
-            t->ns[way][k] = ns / things;
-        }
-    for (size_t way = 0; way < ways; way++) qsort(t->ns[way], rounds, sizeof(double), rising);
+    struct subject s = {time_of_events, &whole, row->subtract ? &less : NULL, NULL, things};
+    take_rounds(&s, rounds, ways, t);
     free(whole.pairs);
     free(less.pairs);
 }
 
-double median(const struct times *t, enum way way) { return t->ns[way][t->rounds / 2]; }
+// The blocks of a row, each way of moving them.
+void measure_blocks(const struct row *row, size_t rounds, struct times *t) {
+    struct blocks b = blocks_of(row);
+    struct subject s = {time_of_blocks, NULL, NULL, &b, (double)(b.length / BODY)};
+    take_rounds(&s, rounds, MOVERS, t);
+    free_blocks(&b);
+}
+
+double median(const struct times *t, size_t way) { return t->ns[way][t->rounds / 2]; }

@@ -3,15 +3,6 @@
 #include "../include/glenoulty.h"
 #include <string.h>
 
-// The archive of the crate pace.
-#define LENT uint8_t *, size_t, uint8_t *, size_t, uint8_t *, size_t, uint8_t *, size_t
-uint8_t pace_core(LENT, const uint8_t *pairs, size_t pairs_length);
-uint8_t pace_unit(LENT, const uint8_t *pairs, size_t pairs_length);
-
-#define TAPES \
-    lent[0].bytes, lent[0].length, lent[1].bytes, lent[1].length, lent[2].bytes, lent[2].length, lent[3].bytes, \
-        lent[3].length
-
 static uint8_t memory[DRIVES + 1][LONGEST];
 struct tape lent[DRIVES] = {{memory[0], 0}, {memory[1], 0}, {memory[2], 0}, {memory[3], 0}};
 uint8_t *kept = memory[DRIVES]; // tape 0 as it was recorded before the events
@@ -40,26 +31,34 @@ void lend(const struct row *row, size_t mark) {
 // Drive 0 alone is recorded on, but by the mixed trace, which records the same on the others in each run.
 void restore(void) { memcpy(lent[0].bytes, kept, lent[0].length); }
 
+// The bytes of an event.
+size_t event_size(uint8_t kind) { return kind >= TAKE && kind <= RESET ? 1 : 2; }
+
+// A fresh unit of the C over events.
+void run_plain(struct unit *u, const struct input *in) {
+    struct result r;
+    baseline_fresh(u);
+    for (size_t i = 0; i + 1 < in->used; i += 2) baseline_step(u, lent, in->pairs + i, event_size(in->pairs[i]), &r);
+}
+
+// A fresh record over events, as firmware calls the unit.
+void run_board(uint8_t *record, const struct input *in) {
+    glenoulty_result r;
+    glenoulty_fresh(record, GLENOULTY_SIZE);
+    for (size_t i = 0; i + 1 < in->used; i += 2)
+        glenoulty_step(record, GLENOULTY_SIZE, TAPES, in->pairs + i, event_size(in->pairs[i]), &r);
+}
+
 static size_t plain(const struct input *in) {
     struct unit u;
-    struct result r;
-    baseline_fresh(&u);
-    for (size_t i = 0; i + 1 < in->used; i += 2) {
-        uint8_t kind = in->pairs[i];
-        baseline_step(&u, lent, in->pairs + i, kind >= TAKE && kind <= RESET ? 1 : 2, &r);
-    }
+    run_plain(&u, in);
     return u.selected;
 }
 
-// As firmware calls the unit; the number of the selected drive stands in byte 1 of the record.
+// The number of the selected drive stands in byte 1 of the record.
 static size_t board(const struct input *in) {
     static uint8_t record[GLENOULTY_SIZE];
-    glenoulty_result r;
-    glenoulty_fresh(record, sizeof record);
-    for (size_t i = 0; i + 1 < in->used; i += 2) {
-        uint8_t kind = in->pairs[i];
-        glenoulty_step(record, sizeof record, TAPES, in->pairs + i, kind >= TAKE && kind <= RESET ? 1 : 2, &r);
-    }
+    run_board(record, in);
     return record[1];
 }
 

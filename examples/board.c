@@ -5,7 +5,7 @@
 #include <stdio.h>
 #include <string.h>
 
-enum { DRIVES = 4, BLOCK = 512, RECORD = 1 + BLOCK, LENGTH = 16384 };
+enum { DRIVES = 4, BLOCK = 512, RECORD = 1 + BLOCK, LENGTH = 16384, PIECE = 192 };
 
 /* ---- the board */
 
@@ -29,16 +29,46 @@ static bool start(struct board *b) {
            glenoulty_lines(b->record, sizeof b->record, &b->pins) == GLENOULTY_TAKEN;
 }
 
+/* What a board lends in every call: its record and its cartridges. */
+#define LENT(b) (b)->record, sizeof (b)->record, (b)->tapes[0], LENGTH, (b)->tapes[1], LENGTH, (b)->tapes[2], LENGTH, \
+                (b)->tapes[3], LENGTH
+
+/* The pins follow what came of a call. */
+static void follow(struct board *b, const glenoulty_result *r) {
+    b->pins.ready = r->ready;
+    b->pins.exception = r->exception;
+    b->pins.direction = r->direction;
+    if (r->given) b->data = r->byte;
+}
+
 /* One event: the unit answers, then the pins follow. Firmware calls this for each edge of the cable or a slot. */
 static glenoulty_result serve(struct board *b, const uint8_t *event, size_t length) {
     glenoulty_result r;
-    glenoulty_step(b->record, sizeof b->record, b->tapes[0], LENGTH, b->tapes[1], LENGTH, b->tapes[2], LENGTH,
-                   b->tapes[3], LENGTH, event, length, &r);
-    b->pins.ready = r.ready;
-    b->pins.exception = r.exception;
-    b->pins.direction = r.direction;
-    if (r.given) b->data = r.byte;
+    glenoulty_step(LENT(b), event, length, &r);
+    follow(b, &r);
     return r;
+}
+
+static size_t piece_of(size_t left) { return left < PIECE ? left : PIECE; }
+
+/* Hands over what came by DMA, a piece at a time, until an answer is not 0: how many bytes went over. */
+static size_t give_all(struct board *b, const uint8_t *bytes, size_t length, glenoulty_result *r) {
+    size_t done = 0;
+    do {
+        done += glenoulty_give(LENT(b), bytes + done, piece_of(length - done), r);
+        follow(b, r);
+    } while (r->answer == GLENOULTY_TAKEN && done < length);
+    return done;
+}
+
+/* Fetches what is to go by DMA in the same way: how many bytes came. */
+static size_t take_all(struct board *b, uint8_t *bytes, size_t length, glenoulty_result *r) {
+    size_t done = 0;
+    do {
+        done += glenoulty_take(LENT(b), bytes + done, piece_of(length - done), r);
+        follow(b, r);
+    } while (r->answer == GLENOULTY_TAKEN && done < length);
+    return done;
 }
 
 /* ---- the host, and the hand at the slots */
@@ -70,22 +100,12 @@ static bool order(struct board *b, const char *what, uint8_t octet, uint8_t want
     return with_body(b, what, GLENOULTY_COMMAND, octet, wanted);
 }
 
-/* Takes one byte from the board; the answer beside the last byte of a block can be EXCEPTION. */
-static bool take(struct board *b, uint8_t *byte, uint8_t *answer) {
-    const uint8_t event[1] = {GLENOULTY_TAKE};
-    glenoulty_result r = serve(b, event, sizeof event);
-    *byte = b->data;
-    *answer = r.answer;
-    return r.given == 1;
-}
-
 /* READ STATUS and its six octets, which clear EXCEPTION; the first two are held to what is wanted. */
 static bool status(struct board *b, uint8_t octet0, uint8_t octet1) {
-    uint8_t octets[6], answer;
+    glenoulty_result r;
+    uint8_t octets[6];
     if (!order(b, "READ STATUS", GLENOULTY_READ_STATUS, GLENOULTY_TAKEN)) return false;
-    for (size_t i = 0; i < sizeof octets; i++) {
-        if (!take(b, &octets[i], &answer) || answer != GLENOULTY_TAKEN) return false;
-    }
+    if (take_all(b, octets, sizeof octets, &r) != sizeof octets || r.answer != GLENOULTY_TAKEN) return false;
     printf("  octets %02X %02X, errors %u, underruns %u\n", octets[0], octets[1], octets[2] * 256u + octets[3],
            octets[4] * 256u + octets[5]);
     return octets[0] == octet0 && octets[1] == octet1;
@@ -96,24 +116,20 @@ static void make_strike(uint8_t strike[BLOCK]) {
     for (unsigned i = 0; i < BLOCK; i++) strike[i] = (uint8_t)(i * 7 + i / 256);
 }
 
-/* Gives a block, each byte an event; it is on the tape with the last one. */
+/* Gives a block, which is on the tape with its last byte. */
 static bool give_block(struct board *b, const uint8_t block[BLOCK]) {
-    for (size_t i = 0; i < BLOCK; i++) {
-        const uint8_t event[2] = {GLENOULTY_GIVE, block[i]};
-        if (serve(b, event, sizeof event).answer != GLENOULTY_TAKEN) return false;
-    }
-    puts("  512 bytes given");
-    return true;
+    glenoulty_result r;
+    size_t went = give_all(b, block, BLOCK, &r);
+    printf("  %u bytes given\n", (unsigned)went);
+    return went == BLOCK && r.answer == GLENOULTY_TAKEN;
 }
 
-/* Takes a block that has to be followed by a mark: EXCEPTION comes beside its last byte. */
-static bool take_block(struct board *b, uint8_t block[BLOCK]) {
-    for (size_t i = 0; i < BLOCK; i++) {
-        uint8_t answer, wanted = i < BLOCK - 1 ? GLENOULTY_TAKEN : GLENOULTY_EXCEPTION;
-        if (!take(b, &block[i], &answer) || answer != wanted) return false;
-    }
-    puts("  512 bytes taken, then EXCEPTION");
-    return true;
+/* Asks for two blocks where a mark follows the first: EXCEPTION comes beside its last byte, and no byte behind it. */
+static bool take_block(struct board *b, uint8_t blocks[2 * BLOCK]) {
+    glenoulty_result r;
+    size_t came = take_all(b, blocks, 2 * BLOCK, &r);
+    printf("  %u bytes taken%s\n", (unsigned)came, r.answer == GLENOULTY_EXCEPTION ? ", then EXCEPTION" : "");
+    return came == BLOCK && r.answer == GLENOULTY_EXCEPTION;
 }
 
 /* Two cartridges, the cable up, and the report that a drive wants after power on. */
@@ -126,7 +142,7 @@ static bool make_ready(struct board *b) {
 }
 
 static bool record_and_read(struct board *b) {
-    uint8_t strike[BLOCK], back[BLOCK];
+    uint8_t strike[BLOCK], back[2 * BLOCK];
     make_strike(strike);
     bool done = order(b, "WRITE", GLENOULTY_WRITE, GLENOULTY_TAKEN) && give_block(b, strike) &&
                 order(b, "WRITE FILE MARK", GLENOULTY_WRITE_FILE_MARK, GLENOULTY_TAKEN) &&
@@ -165,16 +181,22 @@ static bool bad_records_told(struct board *b) {
     return search(b, GLENOULTY_ST0 | GLENOULTY_UDE | GLENOULTY_BNL, "a page is worn");
 }
 
+/* Takes one byte by an event of its own: the host reads it off the data pins. */
+static bool take(struct board *b, uint8_t *byte) {
+    const uint8_t event[1] = {GLENOULTY_TAKE};
+    glenoulty_result r = serve(b, event, sizeof event);
+    *byte = b->data;
+    return r.answer == GLENOULTY_TAKEN && r.given == 1;
+}
+
 /* Power fails in the middle of a report: the record goes to flash, and the report goes on from there. */
 static bool survives_power_loss(struct board *b) {
-    uint8_t byte, answer;
-    if (!order(b, "READ STATUS", GLENOULTY_READ_STATUS, GLENOULTY_TAKEN)) return false;
+    glenoulty_result r;
+    uint8_t octets[6];
+    if (!order(b, "READ STATUS", GLENOULTY_READ_STATUS, GLENOULTY_TAKEN) || !take(b, octets)) return false;
     memcpy(b->flash, b->record, sizeof b->flash);
     memset(b->record, 0, sizeof b->record);
-    if (!start(b)) return false;
-    for (int i = 0; i < 6; i++) {
-        if (!take(b, &byte, &answer) || answer != GLENOULTY_TAKEN) return false;
-    }
+    if (!start(b) || take_all(b, octets + 1, 5, &r) != 5 || r.answer != GLENOULTY_TAKEN) return false;
     puts("  power lost and back: six octets taken");
     return true;
 }

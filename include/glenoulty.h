@@ -2,7 +2,7 @@
  *
  * What a caller keeps, in every call; nothing else can go wrong, whatever the bytes are:
  * - Every pointer is real and not null, also where its length is 0, and its length is true.
- * - Record, four tapes, event and result do not overlap.
+ * - Record, four tapes, event or bytes, and result do not overlap.
  * - One call at a time on one record, and on one tape. */
 #ifndef GLENOULTY_H
 #define GLENOULTY_H
@@ -107,6 +107,29 @@ void glenoulty_step(uint8_t *record, size_t record_length,
                     uint8_t *tape3, size_t tape3_length,
                     const uint8_t *event, size_t event_length,
                     glenoulty_result *result);
+
+/* Gives data bytes as one event GLENOULTY_GIVE for each would, up to and with the first that is not answered 0.
+ * Returns how many went over; a refused one is not counted. The result is that of the last event. With length 0
+ * there is none: answer 0, no byte, the lines as the record has them. Where the buffer holds no record it returns 0,
+ * with answer 5 and all lines down. */
+size_t glenoulty_give(uint8_t *record, size_t record_length,
+                      uint8_t *tape0, size_t tape0_length,
+                      uint8_t *tape1, size_t tape1_length,
+                      uint8_t *tape2, size_t tape2_length,
+                      uint8_t *tape3, size_t tape3_length,
+                      const uint8_t *bytes, size_t bytes_length,
+                      glenoulty_result *result);
+
+/* Takes bytes of a block, or octets of a report, as one event GLENOULTY_TAKE for each would, up to and with the first
+ * that is not answered 0. Returns how many came: they stand at the front of bytes, and what is behind them is as it
+ * was. The result is as with glenoulty_give. */
+size_t glenoulty_take(uint8_t *record, size_t record_length,
+                      uint8_t *tape0, size_t tape0_length,
+                      uint8_t *tape1, size_t tape1_length,
+                      uint8_t *tape2, size_t tape2_length,
+                      uint8_t *tape3, size_t tape3_length,
+                      uint8_t *bytes, size_t bytes_length,
+                      glenoulty_result *result);
 
 /* Writes the lines of a record and returns 0; returns 5, with all lines down, where the buffer holds no record
  * or one that cannot be. */

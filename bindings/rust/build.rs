@@ -21,7 +21,9 @@ fn main() {
     println!("cargo:rerun-if-changed={}", library.display());
     if !library.is_file() {
         eprintln!("glenoulty: there is no {}", library.display());
-        eprintln!("`tools/archive` in the repository makes it; {FOLDER} names another folder that has it");
+        eprintln!(
+            "`tools/archive` in the repository makes it; {FOLDER} names another folder that has it"
+        );
         process::exit(1);
     }
     println!("cargo:rustc-link-search=native={}", folder.display());

@@ -18,6 +18,8 @@
 //! assert_eq!(send(&event::TAKE).byte, Some(0x00));
 //! assert_eq!(send(&event::TAKE).byte, Some(0x89));
 //! ```
+//!
+//! Data goes by [`Unit::write`] and [`Unit::read`], any number of bytes in one call.
 #![no_std]
 
 pub mod event;
@@ -79,6 +81,15 @@ pub struct Outcome {
     pub lines: Lines,
 }
 
+/// What came of bytes that were written or read in one call.
+#[derive(Clone, Copy, Debug, PartialEq, Eq)]
+pub struct Moved {
+    /// How many bytes went over.
+    pub count: usize,
+    /// What came of the last event; with no bytes there is none: taken, no byte, the lines as they stand.
+    pub outcome: Outcome,
+}
+
 impl Answer {
     /// The answers 0 to 6.
     pub const ALL: [Answer; 7] = [
@@ -125,12 +136,39 @@ impl Unit {
 
     /// Answers one event; of the tapes at most the selected drive's is changed.
     pub fn step(&mut self, tapes: [&mut [u8]; 4], event: &[u8]) -> Outcome {
-        let result = raw::step(&mut self.record, tapes, event);
-        Outcome {
-            answer: Answer::ALL[usize::from(result.answer)],
-            byte: (result.given != 0).then_some(result.byte),
-            lines: result.lines.into(),
-        }
+        raw::step(&mut self.record, tapes, event).into()
+    }
+
+    /// Gives data bytes as one [`event::give`] for each would, up to and with the first that is not answered
+    /// [`Answer::Taken`]. A refused byte is not counted.
+    ///
+    /// ```
+    /// use glenoulty::{event, Answer, Order, Unit, BLOCK};
+    ///
+    /// fn lend(tapes: &mut [[u8; 16384]; 4]) -> [&mut [u8]; 4] {
+    ///     tapes.each_mut().map(|tape| &mut tape[..])
+    /// }
+    /// let mut tapes = [[0; 16384]; 4];
+    /// let mut unit = Unit::fresh();
+    /// unit.step(lend(&mut tapes), &event::cartridge_in(0, false));
+    /// unit.step(lend(&mut tapes), &event::ONLINE);
+    /// unit.step(lend(&mut tapes), &event::order(Order::ReadStatus));
+    /// let mut octets = [0; 6];
+    /// assert_eq!(unit.read(lend(&mut tapes), &mut octets).count, 6);
+    /// assert_eq!(octets, [0x00, 0x89, 0, 0, 0, 0]);
+    ///
+    /// unit.step(lend(&mut tapes), &event::order(Order::Write));
+    /// let moved = unit.write(lend(&mut tapes), &[7; 2 * BLOCK]);
+    /// assert_eq!((moved.count, moved.outcome.answer), (2 * BLOCK, Answer::Taken));
+    /// ```
+    pub fn write(&mut self, tapes: [&mut [u8]; 4], bytes: &[u8]) -> Moved {
+        raw::give(&mut self.record, tapes, bytes).into()
+    }
+
+    /// Takes bytes of blocks, or octets of the report, as one [`event::TAKE`] for each would, up to and with the
+    /// first that is not answered [`Answer::Taken`]. They stand at the front of `buffer`; the rest of it is as it was.
+    pub fn read(&mut self, tapes: [&mut [u8]; 4], buffer: &mut [u8]) -> Moved {
+        raw::take(&mut self.record, tapes, buffer).into()
     }
 
     /// The lines of the cable as they stand.
@@ -158,5 +196,21 @@ impl From<raw::Lines> for Lines {
             exception: lines.exception != 0,
             direction: lines.direction != 0,
         }
+    }
+}
+
+impl From<raw::Outcome> for Outcome {
+    fn from(outcome: raw::Outcome) -> Outcome {
+        Outcome {
+            answer: Answer::ALL[usize::from(outcome.answer)],
+            byte: (outcome.given != 0).then_some(outcome.byte),
+            lines: outcome.lines.into(),
+        }
+    }
+}
+
+impl From<(usize, raw::Outcome)> for Moved {
+    fn from((count, outcome): (usize, raw::Outcome)) -> Moved {
+        Moved { count, outcome: outcome.into() }
     }
 }

@@ -1,14 +1,27 @@
-//! The loop of `examples/board.c`: a strike recorded and read back, a plug that refuses, bad records told apart, a record that is stored.
+//! The loop of `examples/board.c`: a strike recorded and read back, a plug that refuses, bad records told apart, a record that is stored; and many bytes in one call.
 #![cfg(target_arch = "x86_64")]
 
-use glenoulty::report::{BNL, BOM, ST0, ST1, UDE};
-use glenoulty::{event, Answer, Lines, Order, Outcome, Unit, BLOCK, LONGEST, SIZE};
+use glenoulty::report::{BNL, BOM, EOM, FIL, ST0, ST1, UDE};
+use glenoulty::{event, Answer, Lines, Moved, Order, Outcome, Unit, BLOCK, LONGEST, SIZE};
 
 const SELECT: [Order; 4] = [Order::Select0, Order::Select1, Order::Select2, Order::Select3];
 
+/// What a buffer holds before bytes are read into it.
+const UNTOUCHED: u8 = 0xA5;
+
+#[derive(Clone, PartialEq, Debug)]
 struct Board {
     unit: Unit,
     tapes: [Vec<u8>; 4],
+}
+
+/// A strike to record: any bytes.
+fn strike(length: usize) -> Vec<u8> {
+    (0..length).map(|i| (i * 7 + i / 256) as u8).collect()
+}
+
+fn lend(tapes: &mut [Vec<u8>; 4]) -> [&mut [u8]; 4] {
+    tapes.each_mut().map(Vec::as_mut_slice)
 }
 
 impl Board {
@@ -17,7 +30,18 @@ impl Board {
     }
 
     fn send(&mut self, event: &[u8]) -> Outcome {
-        self.unit.step(self.tapes.each_mut().map(Vec::as_mut_slice), event)
+        self.unit.step(lend(&mut self.tapes), event)
+    }
+
+    fn write(&mut self, bytes: &[u8]) -> Moved {
+        self.unit.write(lend(&mut self.tapes), bytes)
+    }
+
+    /// Reads into a buffer of a length: what came of it, and the buffer.
+    fn read(&mut self, length: usize) -> (Moved, Vec<u8>) {
+        let mut buffer = vec![UNTOUCHED; length];
+        let moved = self.unit.read(lend(&mut self.tapes), &mut buffer);
+        (moved, buffer)
     }
 
     fn order(&mut self, order: Order) -> Answer {
@@ -51,7 +75,7 @@ impl Board {
 #[test]
 fn a_strike_is_recorded_and_read_back() {
     let mut board = Board::ready(1, false);
-    let strike: Vec<u8> = (0..BLOCK).map(|i| (i * 7 + i / 256) as u8).collect();
+    let strike = strike(BLOCK);
     assert_eq!(board.order(Order::Write), Answer::Taken);
     for &byte in &strike {
         assert_eq!(board.send(&event::give(byte)).answer, Answer::Taken);
@@ -140,4 +164,141 @@ fn empty_tapes_are_lent_too() {
     let outcome = unit.step([&mut [], &mut [], &mut [], &mut []], &event::cartridge_in(0, false));
     assert_eq!(outcome.answer, Answer::Taken);
     assert_eq!(outcome.byte, None);
+}
+
+/// The answer to the last byte, behind how many went over.
+fn went(moved: Moved) -> (usize, Answer) {
+    (moved.count, moved.outcome.answer)
+}
+
+#[test]
+fn a_block_is_written_by_one_call_and_read_back_by_one() {
+    let mut board = Board::ready(1, false);
+    let strike = strike(BLOCK);
+    board.order(Order::Write);
+    let moved = board.write(&strike);
+    assert_eq!(went(moved), (BLOCK, Answer::Taken));
+    assert_eq!(moved.outcome.byte, None);
+    assert_eq!(moved.outcome.lines, Lines { ready: true, exception: false, direction: false });
+    board.write(&strike);
+    board.order(Order::WriteFileMark);
+    board.order(Order::Bot);
+    board.order(Order::Read);
+    let (moved, back) = board.read(BLOCK);
+    assert_eq!(went(moved), (BLOCK, Answer::Taken));
+    assert_eq!(moved.outcome.byte, strike.last().copied());
+    assert_eq!(moved.outcome.lines, Lines { ready: true, exception: false, direction: true });
+    assert_eq!(back, strike);
+}
+
+#[test]
+fn a_mark_ends_the_read_with_the_last_byte_before_it() {
+    let mut board = Board::ready(1, false);
+    let strike = strike(BLOCK);
+    board.order(Order::Write);
+    board.write(&strike);
+    board.order(Order::WriteFileMark);
+    board.order(Order::Bot);
+    board.order(Order::Read);
+    let (moved, back) = board.read(2 * BLOCK);
+    assert_eq!(went(moved), (BLOCK, Answer::Exception));
+    assert_eq!(moved.outcome.byte, strike.last().copied());
+    assert_eq!(moved.outcome.lines, Lines { ready: false, exception: true, direction: false });
+    assert_eq!(back[..BLOCK], strike);
+    assert!(back[BLOCK..].iter().all(|&byte| byte == UNTOUCHED));
+    assert_eq!(board.status()[0], ST0 | FIL);
+}
+
+#[test]
+fn one_call_goes_over_two_blocks_as_single_events_do() {
+    let mut board = Board::ready(2, false);
+    board.order(Order::Write);
+    let mut single = board.clone();
+    let strikes = strike(2 * BLOCK + 9);
+    let moved = board.write(&strikes);
+    assert_eq!(went(moved), (strikes.len(), Answer::Taken));
+    assert_eq!(moved.outcome.lines, Lines::default());
+    for &byte in &strikes {
+        single.send(&event::give(byte));
+    }
+    assert_eq!(board, single);
+    // the rest of the third block, and all three of them read by pieces that end within them
+    assert_eq!(went(board.write(&strikes[9..BLOCK])), (BLOCK - 9, Answer::Taken));
+    board.order(Order::WriteFileMark);
+    board.order(Order::Bot);
+    board.order(Order::Read);
+    let pieces = [700, 700, 700].map(|length| board.read(length));
+    assert_eq!(went(pieces[1].0), (700, Answer::Taken));
+    assert_eq!(went(pieces[2].0), (3 * BLOCK - 1400, Answer::Exception));
+    let back: Vec<u8> = pieces.into_iter().flat_map(|(_, bytes)| bytes).collect();
+    assert_eq!(back[..3 * BLOCK], [&strikes[..], &strikes[9..BLOCK]].concat());
+}
+
+#[test]
+fn the_end_of_a_tape_ends_the_write() {
+    let mut board = Board::ready(0, false);
+    // three blocks and two bytes: early warning after the first
+    board.tapes[0] = vec![0; 3 * (1 + BLOCK) + 2];
+    board.order(Order::Write);
+    let moved = board.write(&[5; 2 * BLOCK]);
+    assert_eq!(went(moved), (BLOCK, Answer::Exception));
+    assert_eq!(moved.outcome.lines, Lines { ready: false, exception: true, direction: false });
+    assert_eq!(went(board.write(&[5])), (0, Answer::OutOfStep));
+    assert_eq!(board.status()[0], ST0 | EOM);
+    // a late WRITE takes two blocks
+    board.order(Order::Write);
+    assert_eq!(went(board.write(&[6; 3 * BLOCK])), (2 * BLOCK, Answer::Exception));
+    assert_eq!(board.status()[0], ST0 | EOM);
+    assert_eq!(board.order(Order::WriteFileMark), Answer::Taken);
+    assert_eq!(board.tapes[0][3 * (1 + BLOCK)..], [2, 0]);
+}
+
+#[test]
+fn a_report_is_read_by_one_call() {
+    let mut board = Board::ready(0, false);
+    board.send(&event::error(0));
+    board.order(Order::ReadStatus);
+    let (moved, octets) = board.read(6);
+    assert_eq!(went(moved), (6, Answer::Taken));
+    assert_eq!(octets, [0x00, ST1 | BOM, 0, 1, 0, 0]);
+    // behind the sixth there is nothing to take
+    board.order(Order::ReadStatus);
+    let (moved, octets) = board.read(8);
+    assert_eq!(went(moved), (6, Answer::OutOfStep));
+    assert_eq!(octets, [0x00, ST1 | BOM, 0, 0, 0, 0, UNTOUCHED, UNTOUCHED]);
+}
+
+#[test]
+fn refused_bytes_are_not_counted() {
+    let mut board = Board::ready(3, false);
+    let before = board.clone();
+    assert_eq!(went(board.write(&[1, 2, 3])), (0, Answer::OutOfStep));
+    let (moved, buffer) = board.read(3);
+    assert_eq!(went(moved), (0, Answer::OutOfStep));
+    assert_eq!(moved.outcome.byte, None);
+    assert_eq!(buffer, [UNTOUCHED; 3]);
+    assert_eq!(board, before);
+    board.tapes[0] = vec![0; LONGEST + 1];
+    assert_eq!(went(board.write(&[1])), (0, Answer::TooLong));
+    assert_eq!(board.unit, before.unit);
+}
+
+#[test]
+fn without_bytes_nothing_happens() {
+    let mut board = Board::ready(0, false);
+    let look = |board: &mut Board| {
+        let before = board.clone();
+        let outcome = Outcome { answer: Answer::Taken, byte: None, lines: board.unit.lines() };
+        assert_eq!(board.write(&[]), Moved { count: 0, outcome });
+        assert_eq!(board.read(0).0, Moved { count: 0, outcome });
+        assert_eq!(*board, before);
+    };
+    look(&mut Board::new());
+    look(&mut board);
+    board.order(Order::ReadStatus);
+    look(&mut board);
+    board.read(6);
+    board.order(Order::Write);
+    board.write(&[1]);
+    look(&mut board);
 }

@@ -25,6 +25,12 @@ unfolding pick
 choice-holds P true px py = px
 choice-holds P false px py = py
 
+-- The same, each where the test chooses it.
+pub choice-by : {A : Type 0} (P : A → Type 0) (t : Bool) {x y : A} → (t ≡ true → P x) → (t ≡ false → P y) → P (pick t x y)
+unfolding pick
+choice-by P true px py = px refl
+choice-by P false px py = py refl
+
 -- Where two tests hold, each does; and where each does, both do.
 pub both : (a b : Bool) → (a && b) ≡ true → (a ≡ true) × (b ≡ true)
 both true b h = (refl, h)

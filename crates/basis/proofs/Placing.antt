@@ -1,12 +1,27 @@
 -- Laws of bytes put at an offset of a buffer.
 use Prim.Native.Nat.{ℕ, zero, suc, _+_, _≤_, _<_}
-use mathlib.Core.List.{List, [], _∷_, _++_, append-nil, append-assoc}
+use mathlib.Core.List.{List, [], _∷_, _++_, append-nil}
 use mathlib.Core.Path.{_≡_, refl, sym, ap, _∙_}
-use native.Mathlib.Nat.{add-zero, add-suc, suc-add}
+use native.Mathlib.Nat.{add-zero}
 use native.Mathlib.Omega.{arith}
-use lib.ListN.{length, take, drop, set, length-append}
-use lib.Seq.{sets, sets-eq, length-sets, set-comm, paste, take-length, take-at, drop-at, length-take-le}
+use lib.ListN.{length, getD, take, drop, set, length-append, take-append-drop}
+use lib.Seq.{sets, sets-eq, length-sets, set-comm, paste, take-length, take-at, drop-at, drop-cons, length-take-le, getD-take, getD-append-add}
 use Rattle.basis.specs.Placed.{placed}
+
+-- n bytes from an offset on, one by one
+abbrev pub each : ℕ → ℕ → List ℕ → List ℕ
+each zero k l = []
+each (suc n) k l = getD l k 0 ∷ each n (suc k) l
+
+pub each-is : (n k : ℕ) (l : List ℕ) → n + k ≤ length l → each n k l ≡ take n (drop k l)
+each-is zero k l fits = refl
+each-is (suc n) k l fits =
+    ap (λ (r : List ℕ). getD l k 0 ∷ r) (each-is n (suc k) l (omega arith)) ∙ ap (take (suc n)) (sym (drop-cons l k 0 (omega arith)))
+
+-- Nothing put changes nothing.
+pub placed-none : (o : List ℕ) (at : ℕ) → placed o at [] ≡ o
+unfolding placed
+placed-none o at = rw (add-zero at, append-nil (take at o)) (take-append-drop at o)
 
 pub placed-sets : (o : List ℕ) (at : ℕ) (l : List ℕ) → at + length l ≤ length o → placed o at l ≡ sets o at l
 unfolding placed
@@ -56,3 +71,12 @@ module _ (o : List ℕ) (at : ℕ) (l : List ℕ) (h : at + length l ≤ length 
   pub drop-placed : drop (at + length l) (placed o at l) ≡ drop (at + length l) o
   unfolding placed
   drop-placed = drop-at (take at o ++ l) (drop (at + length l) o) (at + length l) front
+
+  -- A byte of what was put.
+  pub placed-byte : (i : ℕ) → i < length l → getD (placed o at l) (at + i) 0 ≡ getD l i 0
+  placed-byte i lt =
+      let before : length (take at o) ≡ at = length-take-le at o (omega arith) in
+      sym (getD-take (at + length l) (placed o at l) (at + i) 0 (omega (arith, lt)))
+      ∙ ap (λ (x : List ℕ). getD x (at + i) 0) take-placed
+      ∙ ap (λ (k : ℕ). getD (take at o ++ l) (k + i) 0) (sym before)
+      ∙ getD-append-add (take at o) l i 0

@@ -4,15 +4,10 @@ use mathlib.Core.Path.{_≡_}
 use mathlib.Core.Bool.{true}
 use mathlib.Core.List.{List}
 use lib.ListN.{length}
-use borrow.Author.Tests.{eqb-true}
 use Rattle.basis.proofs.Choosing.{both}
 use Rattle.layout.specs.Written.{recordSize}
-use Rattle.layout.specs.Read.{isRecord}
+use Rattle.layout.proofs.Form.{record-long}
 use Rattle.board.specs.Serve.{holds}
-
-pub record-long : (l : List ℕ) → isRecord l ≡ true → length l ≡ recordSize
-unfolding isRecord
-record-long l so = eqb-true (length l) recordSize (both _ _ so .0)
 
 pub held-long : (l : List ℕ) → holds l ≡ true → length l ≡ recordSize
 unfolding holds

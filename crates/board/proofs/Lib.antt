@@ -1,3 +1,4 @@
 mod Held
+mod InPlace
 pub mod Outcomes
 pub mod Calls

@@ -3,14 +3,16 @@ use Prim.Native.Nat.{ℕ, _≤_}
 use mathlib.Core.Path.{_≡_}
 use mathlib.Core.Bool.{true}
 use mathlib.Core.List.{List, [], _∷_, map}
+use lib.ListN.{length}
 use Rattle.rules.specs.declared.answer.Turn.{Turn}
 use Rattle.rules.specs.Unit.{freshUnit}
-use Rattle.rules.specs.Run.{World, world}
+use Rattle.rules.specs.Run.{World, world, givenEach, takenTimes}
 use Rattle.rules.specs.Ran.{Ran}
 use Rattle.layout.specs.Number.{byteAt}
 use Rattle.layout.specs.Read.{fits, isRecord, coreOf, stagingOf, unitOf}
 use Rattle.layout.specs.Laws.{Octets}
-use Rattle.board.specs.Serve.{Tapes, lentWith, resultBytes, Serves, Freshens, holds}
+use Rattle.unit.specs.Handover.{upTo, turnsUpTo}
+use Rattle.board.specs.Serve.{Tapes, lentWith, resultBytes, Serves, Gives, Takes, Freshens, holds}
 
 -- A fresh record is possible, and what it holds is the fresh unit.
 abbrev pub FreshHeld : Type 0
@@ -42,3 +44,18 @@ pub record AsUnit (l : List ℕ) (t : Tapes) (events outs : List (List ℕ)) (l�
 abbrev pub CallsRun : Type 0
 CallsRun =
     (l l′ : List ℕ) (t t′ : Tapes) (events outs : List (List ℕ)) → isRecord l ≡ true → Used l t events outs l′ t′ → AsUnit l t events outs l′ t′
+
+-- Many bytes in one call are a run too, over the events that it ran: up to and with the first that is not answered 0.
+pub record RunUpTo (l : List ℕ) (t : Tapes) (events : List (List ℕ)) (l′ : List ℕ) (t′ : Tapes) : Type 0 where
+  pub ran : Ran (worldOf l t) (upTo (worldOf l t) events) (turnsUpTo (worldOf l t) events) (worldOf l′ t′)
+  pub still : isRecord l′ ≡ true
+
+abbrev pub GivesRun : Type 0
+GivesRun =
+    (l l′ : List ℕ) (t t′ : Tapes) (bytes : List ℕ) (r : ℕ) (out : List ℕ) → isRecord l ≡ true → Gives l t bytes r out l′ t′
+    → RunUpTo l t (givenEach bytes) l′ t′
+
+abbrev pub TakesRun : Type 0
+TakesRun =
+    (l l′ : List ℕ) (t t′ : Tapes) (bytes : List ℕ) (r : ℕ) (out bytes′ : List ℕ) → isRecord l ≡ true → Takes l t bytes r out l′ t′ bytes′
+    → RunUpTo l t (takenTimes (length bytes)) l′ t′

@@ -6,12 +6,15 @@ use mathlib.Core.List.{List, [], _∷_}
 use Rattle.basis.specs.Choice.{pick}
 use Rattle.rules.specs.declared.answer.Answer.the-variants.{Taken, Impossible}
 use Rattle.rules.specs.declared.answer.Lines.{Lines}
+use Rattle.rules.specs.declared.unit.Core.{Core}
 use Rattle.rules.specs.declared.answer.Turn.{Turn}
 use Rattle.rules.specs.Unit.{Lent, lent, freshUnit}
 use Rattle.rules.specs.Answer.{rowOf}
 use Rattle.rules.specs.Lines.{linesOf, linesDown}
 use Rattle.rules.specs.Refusal.{possible}
 use Rattle.rules.specs.Step.{Steps}
+use Rattle.unit.specs.declared.many.Handed.{Handed}
+use Rattle.unit.specs.Handover.{GivesOver, TakesOver}
 use Rattle.layout.specs.Written.{flag, unit, Sized, unitBytes}
 use Rattle.layout.specs.Read.{fits, isRecord, coreOf, stagingOf}
 
@@ -58,6 +61,25 @@ pub record NotServed (l : List ℕ) (t : Tapes) (out l′ : List ℕ) (t′ : Ta
 pub data Serves (l : List ℕ) (t : Tapes) (event out l′ : List ℕ) (t′ : Tapes) : Type 0 where
   of-record : isRecord l ≡ true → Served l t event out l′ t′ → Serves l t event out l′ t′
   of-none : isRecord l ≡ false → NotServed l t out l′ t′ → Serves l t event out l′ t′
+
+-- Many bytes on a buffer that is a record: a call of the unit on what it holds. Its last turn is the result, and what it leaves is written back.
+pub record ServedMany (took : Core → Lent → Handed → Lent → Type 0) (l : List ℕ) (t : Tapes) (r : ℕ) (out l′ : List ℕ) (t′ : Tapes) : Type 0 where
+  pub handed : Handed
+  pub staging : List ℕ
+  pub is : took (coreOf l) (lentWith (stagingOf l) t) handed (lentWith staging t′)
+  pub count : r ≡ handed .count
+  pub result : out ≡ resultBytes (handed .last)
+  pub left : l′ ≡ unitBytes (unit (handed .last .core) staging)
+  pub sized : Sized (unit (handed .last .core) staging)
+
+-- THE CONTRACTS of many bytes given, and of many taken into a buffer.
+pub data Gives (l : List ℕ) (t : Tapes) (bytes : List ℕ) (r : ℕ) (out l′ : List ℕ) (t′ : Tapes) : Type 0 where
+  of-record : isRecord l ≡ true → ServedMany (λ c lent h lent′. GivesOver c lent bytes h lent′) l t r out l′ t′ → Gives l t bytes r out l′ t′
+  of-none : isRecord l ≡ false → NotServed l t out l′ t′ → r ≡ 0 → Gives l t bytes r out l′ t′
+
+pub data Takes (l : List ℕ) (t : Tapes) (bytes : List ℕ) (r : ℕ) (out l′ : List ℕ) (t′ : Tapes) (bytes′ : List ℕ) : Type 0 where
+  of-record : isRecord l ≡ true → ServedMany (λ c lent h lent′. TakesOver c lent bytes h lent′ bytes′) l t r out l′ t′ → Takes l t bytes r out l′ t′ bytes′
+  of-none : isRecord l ≡ false → NotServed l t out l′ t′ → r ≡ 0 → bytes′ ≡ bytes → Takes l t bytes r out l′ t′ bytes′
 
 -- A fresh record, into a buffer of a record's size and no other.
 pub record Freshens (l : List ℕ) (r : ℕ) (l′ : List ℕ) : Type 0 where

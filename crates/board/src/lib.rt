@@ -3,9 +3,11 @@ mod exports;
 mod result;
 
 pub use exports::glenoulty_fresh;
+pub use exports::glenoulty_give;
 pub use exports::glenoulty_lines;
 pub use exports::glenoulty_size;
 pub use exports::glenoulty_step;
+pub use exports::glenoulty_take;
 
 // The bytes of the lines, and of a result.
 pub const LINES: usize = 3;

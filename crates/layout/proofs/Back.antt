@@ -1,12 +1,10 @@
 -- Every record is given back by its bytes.
 use Prim.Native.Nat.{ℕ, _+_}
-use mathlib.Core.Path.{_≡_, refl, sym, ap, _∙_}
+use mathlib.Core.Path.{_≡_, refl, _∙_}
 use mathlib.Core.Bool.{Bool, true, false}
 use mathlib.Core.List.{List, _++_}
 use native.Mathlib.Nat.{mod-add-div}
-use native.Mathlib.Omega.{arith}
-use lib.ListN.{length, take, drop, length-append}
-use lib.Seq.{take-at, drop-append-add, take-all}
+use lib.ListN.{length, length-append}
 use Rattle.basis.specs.Choice.{pick}
 use Rattle.rules.specs.declared.drive.Drive.{Drive}
 use Rattle.rules.specs.declared.drive.Mode.{Mode}
@@ -21,6 +19,7 @@ use Rattle.layout.specs.Written.{portSize, driveSize, recordSize}
 use Rattle.layout.specs.Read.{stretch, isFlag, isMode, isPhase, isDrive, isPort, isRecord}
 use Rattle.layout.specs.Read.{flagOf, modeOf, phaseOf, driveOf, portOf, coreOf, stagingOf}
 use Rattle.layout.specs.Laws.{ReadBack}
+use Rattle.layout.proofs.Stretch.{stretch-end, skip, here}
 use Rattle.layout.proofs.Parts.{six, port-long, drive-long}
 
 -- what is written of a bool, a mode or a phase is taken for one, and is read as what it was
@@ -73,19 +72,6 @@ port-fits : (p : Port) → isPort (portBytes p) ≡ true
 unfolding isPort portBytes
 port-fits p = simp (flag-fits, mod-add-div, phase-fits)
 
--- what a stretch of two lists is, behind the first and at its front
-skip : (p r : List ℕ) (n m k : ℕ) → length p ≡ n → stretch (n + m) k (p ++ r) ≡ stretch m k r
-unfolding stretch
-skip p r n m k size = ap (λ (i : ℕ). take k (drop (i + m) (p ++ r))) (sym size) ∙ ap (take k) (drop-append-add p r m)
-
-here : (p r : List ℕ) (n : ℕ) → length p ≡ n → stretch 0 n (p ++ r) ≡ p
-unfolding stretch
-here p r n size = take-at p r n size
-
-all-of : (g : List ℕ) (n : ℕ) → length g ≡ n → stretch 0 n g ≡ g
-unfolding stretch
-all-of g n size = take-all n g (omega (arith, size))
-
 -- The parts of a record stand where they are read.
 record Laid (u : Unit) (l : List ℕ) : Type 0 where
   pub port : stretch 0 portSize l ≡ portBytes (u .core .port)
@@ -125,7 +111,7 @@ laid u sized =
       drive1 = past0 0 32 ∙ here d1 r2 32 l1;
       drive2 = past1 0 32 ∙ here d2 r3 32 l2;
       drive3 = past2 0 32 ∙ here d3 g 32 l3;
-      staging = past2 32 512 ∙ skip d3 g 32 0 512 l3 ∙ all-of g 512 (sized .staging);
+      staging = past2 32 512 ∙ skip d3 g 32 0 512 l3 ∙ stretch-end g 0 512 (sized .staging);
       size = simp (length-append, p-long, l0, l1, l2, l3, sized .staging);
     }
 

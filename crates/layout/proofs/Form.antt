@@ -6,8 +6,9 @@ use mathlib.Core.List.{List, [], _∷_, _++_}
 use native.Mathlib.Nat.{add-mul-mod-self-left, add-mul-div-left, mod-eq-of-lt, div-eq-of-lt, zero-add}
 use native.Mathlib.Omega.{arith}
 use borrow.Author.Tests.{leb-true, eqb-true}
-use lib.ListN.{length, take, drop, length-drop, take-append-drop}
-use lib.Seq.{take-all, length-take-le, getD-take, getD-drop, drop-drop}
+use lib.Dec.{eqb}
+use lib.ListN.{length, drop}
+use lib.Seq.{take-all, getD-take, getD-drop}
 use Rattle.basis.specs.Choice.{pick}
 use Rattle.basis.proofs.Choosing.{both}
 use Rattle.layout.specs.Number.{two, four, eight, byteAt, twoAt, fourAt, eightAt}
@@ -17,7 +18,8 @@ use Rattle.layout.specs.Written.{portSize, driveSize, recordSize}
 use Rattle.layout.specs.Read.{stretch, isFlag, isMode, isPhase, isUnused, isDrive, isPort, isRecord}
 use Rattle.layout.specs.Read.{flagOf, modeOf, phaseOf, driveOf, portOf, coreOf, stagingOf}
 use Rattle.layout.specs.Laws.{Octets, OneForm}
-use Rattle.layout.proofs.Parts.{each, each-is}
+use Rattle.basis.proofs.Placing.{each, each-is}
+use Rattle.layout.proofs.Stretch.{stretch-long, stretch-end, stretch-off}
 
 -- lists that agree part by part
 ends : _≡_ {A = List ℕ} [] []
@@ -138,22 +140,10 @@ port-form p size small so =
     let octets : each 6 12 p ≡ each 6 12 p = refl in
     joined front (joined (ap eight (phase .1) ∙ number) octets) ∙ whole portSize p size
 
--- what a stretch has of the whole
-stretch-long : (l : List ℕ) (at n : ℕ) → at + n ≤ length l → length (stretch at n l) ≡ n
-unfolding stretch
-stretch-long l at n fits = length-take-le n (drop at l) (omega (arith, fits, length-drop at l))
-
+-- what a stretch has is small where the whole is
 stretch-small : (l : List ℕ) (at n : ℕ) → Octets l → Small n (stretch at n l)
 unfolding stretch
 stretch-small l at n small i lt = rw (getD-take n (drop at l) i 0 lt, getD-drop at l i 0) (small (at + i))
-
-stretch-off : (l : List ℕ) (at n : ℕ) → stretch at n l ++ drop (at + n) l ≡ drop at l
-unfolding stretch
-stretch-off l at n = ap (λ (r : List ℕ). take n (drop at l) ++ r) (sym (drop-drop n at l)) ∙ take-append-drop n (drop at l)
-
-stretch-end : (l : List ℕ) (at n : ℕ) → length l ≡ at + n → stretch at n l ≡ drop at l
-unfolding stretch
-stretch-end l at n size = take-all n (drop at l) (omega (arith, size, length-drop at l))
 
 -- a stretch, and what is behind it
 next : (l : List ℕ) {r : List ℕ} (at n : ℕ) → r ≡ drop (at + n) l → stretch at n l ++ r ≡ drop at l
@@ -172,16 +162,19 @@ module _ (l : List ℕ) (small : Octets l) (size : length l ≡ recordSize) wher
   drive-at : (at : ℕ) → at + 32 ≤ recordSize → isDrive (stretch at 32 l) ≡ true → driveBytes (driveOf (stretch at 32 l)) ≡ stretch at 32 l
   drive-at at fits = drive-form (stretch at 32 l) (stretch-long l at 32 (omega (arith, size, fits))) (stretch-small l at 32 small)
 
+pub record-long : (l : List ℕ) → isRecord l ≡ true → length l ≡ recordSize
+unfolding isRecord
+record-long l so = eqb-true (length l) recordSize (both _ _ so .0)
+
 pub one-form : OneForm
 unfolding isRecord coreOf stagingOf unitBytes
 one-form l small so =
-    let s = both _ _ so in
-    let size : length l ≡ recordSize = eqb-true (length l) recordSize (s .0) in
+    let size = record-long l so in
     let drive0 = drive-at l small size 18 (omega arith) in
     let drive1 = drive-at l small size 50 (omega arith) in
     let drive2 = drive-at l small size 82 (omega arith) in
     let drive3 = drive-at l small size 114 (omega arith) in
-    let s0 = both _ _ (s .1) in
+    let s0 = both _ _ (both (eqb (length l) recordSize) _ so .1) in
     let s1 = both _ _ (s0 .1) in
     let s2 = both _ _ (s1 .1) in
     let s3 = both _ _ (s2 .1) in

@@ -3,8 +3,10 @@ use Prim.Native.Nat.{ℕ}
 use mathlib.Core.Path.{_≡_}
 use mathlib.Core.Bool.{Bool}
 use mathlib.Core.List.{List}
+use Rattle.basis.specs.Placed.{placed}
+use Rattle.rules.specs.declared.phase.Phase.{Phase}
 use Rattle.rules.specs.declared.unit.Core.{Core}
-use Rattle.layout.specs.Written.{flag, unit, unitBytes}
+use Rattle.layout.specs.Written.{flag, phaseAt, phaseBytes, unit, unitBytes}
 use Rattle.layout.specs.Read.{isRecord, coreOf, stagingOf}
 
 pub record OneOutcome : Type 0 where
@@ -12,4 +14,6 @@ pub record OneOutcome : Type 0 where
   pub is-record : (l : List ℕ) (r r′ : Bool) → r ≡ isRecord l → r′ ≡ isRecord l → r ≡ r′
   pub core-of : (l : List ℕ) (r r′ : Core) → r ≡ coreOf l → r′ ≡ coreOf l → r ≡ r′
   pub staging-of : (l g g′ : List ℕ) → g ≡ stagingOf l → g′ ≡ stagingOf l → g ≡ g′
+  pub write-core : (c : Core) (l l′ l″ : List ℕ) → l′ ≡ unitBytes (unit c (stagingOf l)) → l″ ≡ unitBytes (unit c (stagingOf l)) → l′ ≡ l″
   pub write-record : (c : Core) (g l′ l″ : List ℕ) → l′ ≡ unitBytes (unit c g) → l″ ≡ unitBytes (unit c g) → l′ ≡ l″
+  pub write-phase : (ph : Phase) (l l′ l″ : List ℕ) → l′ ≡ placed l phaseAt (phaseBytes ph) → l″ ≡ placed l phaseAt (phaseBytes ph) → l′ ≡ l″

@@ -9,6 +9,7 @@ use Rattle.rules.specs.declared.drive.Drive.{Drive}
 use Rattle.rules.specs.declared.drive.Latched.{Latched}
 use Rattle.rules.specs.declared.drive.Mode.{Mode}
 use Rattle.rules.specs.declared.drive.Mode.the-variants.{Idle, Writing, Reading}
+use Rattle.rules.specs.declared.phase.Phase.{Phase}
 use Rattle.rules.specs.declared.unit.Port.{Port}
 use Rattle.rules.specs.declared.unit.Core.{Core}
 use Rattle.rules.specs.declared.unit.Unit.{Unit}
@@ -28,6 +29,10 @@ driveSize = 32
 
 abbrev pub recordSize : ℕ
 recordSize = 658
+
+-- Where the phase begins, in the port and in a whole record.
+abbrev pub phaseAt : ℕ
+phaseAt = 3
 
 -- What stands in room that no field has.
 abbrev pub unused : ℕ
@@ -58,11 +63,13 @@ driveBytes d =
     ++ (four unused
     ++ (two (d .errors .0) ++ (two (d .underruns .0) ++ (stateBytes d ++ (latchedBytes (d .latched) ++ two unused)))))
 
--- The port: version, selected drive, ONLINE and phase, the phase's number, octets.
+-- A phase: which of the four it is, and its number.
+abbrev pub phaseBytes : Phase → List ℕ
+phaseBytes ph = whichPhase ph ∷ eight (howFar ph)
+
+-- The port: version, selected drive and ONLINE, phase, octets.
 unfoldable pub portBytes : Port → List ℕ
-portBytes p =
-    (version ∷ p .selected ∷ flag (p .online) ∷ whichPhase (p .phase) ∷ [])
-    ++ (eight (howFar (p .phase)) ++ p .octets)
+portBytes p = (version ∷ p .selected ∷ flag (p .online) ∷ []) ++ (phaseBytes (p .phase) ++ p .octets)
 
 -- A unit is its core and its staging block.
 abbrev pub unit : Core → List ℕ → Unit

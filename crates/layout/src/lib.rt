@@ -7,6 +7,8 @@ pub use read::core_of;
 pub use read::is_record;
 pub use read::staging_of;
 pub use write::flag;
+pub use write::write_core;
+pub use write::write_phase;
 pub use write::write_record;
 
 // The first byte of each record.
@@ -17,7 +19,9 @@ pub(crate) const PORT: usize = 18;
 
 pub(crate) const DRIVE: usize = 32;
 
-// Where each drive and the staging block begin, and where the record ends.
+// Where the phase, each drive and the staging block begin, and where the record ends.
+pub(crate) const PHASE: usize = 3;
+
 pub(crate) const DRIVE_0: usize = PORT;
 
 pub(crate) const DRIVE_1: usize = DRIVE_0 + DRIVE;
@@ -26,6 +30,6 @@ pub(crate) const DRIVE_2: usize = DRIVE_1 + DRIVE;
 
 pub(crate) const DRIVE_3: usize = DRIVE_2 + DRIVE;
 
-pub(crate) const STAGING: usize = DRIVE_3 + DRIVE;
+pub const STAGING: usize = DRIVE_3 + DRIVE;
 
 pub const RECORD: usize = STAGING + tape::BODY;

@@ -4,13 +4,15 @@ ghost use Prim.Native.Nat.{_+_, _≤_};
 ghost use lib.ListN.{length};
 ghost use Rattle.basis.specs.Placed.{placed};
 ghost use Rattle.rules.specs.Phase.{reportSize};
-ghost use Rattle.layout.specs.Written.{flag, modeByte, latchedBytes, driveBytes, portBytes, unitBytes};
-ghost use Rattle.layout.specs.Written.{unit, Sized, portSize, driveSize, recordSize};
+ghost use Rattle.layout.specs.Written.{flag, modeByte, latchedBytes, driveBytes, phaseBytes, portBytes, unitBytes};
+ghost use Rattle.layout.specs.Written.{unit, Sized, phaseAt, portSize, driveSize, recordSize};
+ghost use Rattle.layout.specs.Read.{stagingOf};
 use crate::DRIVE;
 use crate::DRIVE_0;
 use crate::DRIVE_1;
 use crate::DRIVE_2;
 use crate::DRIVE_3;
+use crate::PHASE;
 use crate::PORT;
 use crate::STAGING;
 use crate::VERSION;
@@ -21,6 +23,7 @@ use rules::Core;
 use rules::Drive;
 use rules::Latched;
 use rules::Mode;
+use rules::Phase;
 use rules::Port;
 use tape::BODY;
 
@@ -148,16 +151,45 @@ fn put_drive(buffer: &mut [u8], at: usize, drive: Drive)
     put(buffer, at, &bytes);
 }
 
-// A whole record, into a buffer of its size.
-pub fn write_record(buffer: &mut [u8], core: Core, staging: &[u8; BODY])
+// All of a record but its staging block, which stays as it stands there.
+pub fn write_core(buffer: &mut [u8], core: Core)
     requires { do ⌜ (← ⟦buffer.len()⟧) ≡ recordSize ⌝ }
-    ensures { λ _. ⌜ now (buffer .exit) ≡ unitBytes (unit core (now (staging .entry))) ⌝ }
-    ensures { λ _. ⌜ Sized (unit core (now (staging .entry))) ⌝ }
+    ensures { λ _. ⌜ now (buffer .exit) ≡ unitBytes (unit core (stagingOf (now (buffer .entry)))) ⌝ }
+    ensures { λ _. ⌜ Sized (unit core (stagingOf (now (buffer .entry)))) ⌝ }
 {
     put_port(buffer, core.port);
     put_drive(buffer, DRIVE_0, core.drive0);
     put_drive(buffer, DRIVE_1, core.drive1);
     put_drive(buffer, DRIVE_2, core.drive2);
     put_drive(buffer, DRIVE_3, core.drive3);
+}
+
+// A whole record, into a buffer of its size.
+pub fn write_record(buffer: &mut [u8], core: Core, staging: &[u8; BODY])
+    requires { do ⌜ (← ⟦buffer.len()⟧) ≡ recordSize ⌝ }
+    ensures { λ _. ⌜ now (buffer .exit) ≡ unitBytes (unit core (now (staging .entry))) ⌝ }
+    ensures { λ _. ⌜ Sized (unit core (now (staging .entry))) ⌝ }
+{
     put(buffer, STAGING, staging);
+    write_core(buffer, core);
+}
+
+// Another phase of a record, and nothing else.
+pub fn write_phase(buffer: &mut [u8], phase: Phase)
+    requires { do ⌜ (← ⟦buffer.len()⟧) ≡ recordSize ⌝ }
+    ensures { λ _. ⌜ now (buffer .exit) ≡ placed (now (buffer .entry)) phaseAt (phaseBytes phase) ⌝ }
+{
+    let n = eight(phase.how_far());
+    let bytes = [
+        phase.which(),
+        n[0],
+        n[1],
+        n[2],
+        n[3],
+        n[4],
+        n[5],
+        n[6],
+        n[7],
+    ];
+    put(buffer, PHASE, &bytes);
 }

@@ -1,13 +1,14 @@
 -- Pairs cut off one after the other, and what the world at the end has.
 use Prim.Native.Nat.{ℕ, zero, suc, _+_, _-_, _<_, _≤_}
-use mathlib.Core.Path.{_≡_, refl, sym, ap, ap₂, _∙_}
+use mathlib.Core.Path.{_≡_, refl, sym, ap, ap₂, subst, _∙_}
 use mathlib.Core.List.{List, [], _∷_}
 use native.Mathlib.Omega.{arith}
 use lib.ListN.{length, getD, take, drop, length-drop}
 use lib.Seq.{drop-cons}
 use Rattle.rules.specs.declared.unit.Core.{Core}
-use Rattle.rules.specs.Unit.{lent}
+use Rattle.rules.specs.Unit.{Lent, lent}
 use Rattle.rules.specs.Run.{World, world, run, freshWorld}
+use Rattle.unit.specs.declared.many.Handed.{Handed}
 use Rattle.trace.specs.Cut.{kindSize}
 use Rattle.pace.specs.Pairs.{pairsOf, Paced}
 
@@ -56,3 +57,8 @@ paced-of a b c d pairs k g a′ b′ c′ d′ e =
       tape2 = ap (λ (w : World). w .lent .tape2) e;
       tape3 = ap (λ (w : World). w .lent .tape3) e;
     }
+
+-- a call that follows a run, from where the run ended
+pub then-called : (call : Core → Lent → Handed → Lent → Type 0) (k : Core) (l : Lent) (w : World) (h : Handed) (l′ : Lent)
+    → world k l ≡ w → call k l h l′ → call (w .core) (w .lent) h l′
+then-called call k l w h l′ e is = subst (λ (x : World). call (x .core) (x .lent) h l′) e is

@@ -11,7 +11,7 @@ use Rattle.tape.proofs.Standing.{block-fits}
 use Rattle.rules.specs.declared.drive.Drive.{Drive}
 use Rattle.rules.specs.Edge.{isBlock, checked}
 
-is-block : (f : Found) → isBlock f ≡ true → f ≡ Block
+pub is-block : (f : Found) → isBlock f ≡ true → f ≡ Block
 is-block Block e = refl
 is-block Mark e = cc
 is-block (Stop w) e = cc

@@ -1,5 +1,7 @@
 // What the selected drive does with an act of the host.
 ghost use mathlib.Core.Path.{_≡_};
+ghost use lib.ListN.{length};
+ghost use Rattle.tape.specs.Record.{bodySize};
 ghost use Rattle.rules.specs.Effect.{seat, acted};
 ghost use Rattle.rules.specs.Step.{act};
 use crate::effect::command;
@@ -11,10 +13,10 @@ use rules::Act;
 use rules::Drive;
 use rules::Moved;
 use rules::Port;
-use tape::BODY;
 
 // The port, the staging block with a byte given in it, the drive's own record and its own tape: nothing else is in reach.
-pub fn act(port: Port, staging: &[u8; BODY], drive: Drive, tape: &mut [u8], a: Act) -> Moved
+pub fn act(port: Port, staging: &[u8], drive: Drive, tape: &mut [u8], a: Act) -> Moved
+    requires { ⌜ length (now staging) ≡ bodySize ⌝ }
     ensures { λ r. ⌜ acted r (now (tape .exit)) ≡ act (now (staging .entry)) (seat port drive (now (tape .entry))) a ⌝ }
 {
     match a {

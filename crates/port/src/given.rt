@@ -1,5 +1,7 @@
 // A byte given by the host.
 ghost use mathlib.Core.Path.{_≡_};
+ghost use lib.ListN.{length};
+ghost use Rattle.tape.specs.Record.{bodySize};
 ghost use Rattle.rules.specs.Effect.{seat, acted};
 ghost use Rattle.rules.specs.Phase.{givenBefore};
 ghost use Rattle.rules.specs.Bytes.{stagedByte, afterBlock, stored, byteGiven};
@@ -14,12 +16,12 @@ use rules::LAST_PLACE;
 use rules::Moved;
 use rules::Phase;
 use rules::Port;
-use tape::BODY;
 use tape::Made;
 use tape::record_block;
 
 // A byte staged at place n, counted from 0; the last place is 511.
-fn put(staging: &mut [u8; BODY], n: usize, byte: u8)
+fn put(staging: &mut [u8], n: usize, byte: u8)
+    requires { ⌜ length (now staging) ≡ bodySize ⌝ }
     ensures { λ _. ⌜ now (staging .exit) ≡ stagedByte n byte (now (staging .entry)) ⌝ }
 {
     if n < LAST_PLACE {
@@ -30,7 +32,8 @@ fn put(staging: &mut [u8; BODY], n: usize, byte: u8)
 }
 
 // The staging block as the act is to find it: a byte given is in it.
-pub fn stage(staging: &mut [u8; BODY], phase: Phase, a: Act)
+pub fn stage(staging: &mut [u8], phase: Phase, a: Act)
+    requires { ⌜ length (now staging) ≡ bodySize ⌝ }
     ensures { λ _. ⌜ now (staging .exit) ≡ staged phase a (now (staging .entry)) ⌝ }
 {
     match a {
@@ -54,7 +57,8 @@ fn after_block(port: Port, drive: Drive, tape: &[u8], late: u8) -> Moved
 }
 
 // The whole block is recorded, or dropped with EOM where it has no room.
-fn store(port: Port, staging: &[u8; BODY], drive: Drive, tape: &mut [u8]) -> Moved
+fn store(port: Port, staging: &[u8], drive: Drive, tape: &mut [u8]) -> Moved
+    requires { ⌜ length (now staging) ≡ bodySize ⌝ }
     ensures { λ r. ⌜ acted r (now (tape .exit)) ≡ stored (now (staging .entry)) port drive (now (tape .entry)) ⌝ }
 {
     let late = drive.late;
@@ -66,7 +70,8 @@ fn store(port: Port, staging: &[u8; BODY], drive: Drive, tape: &mut [u8]) -> Mov
 }
 
 // The byte is staged already. No tape byte changes before the 512th.
-pub fn give(port: Port, staging: &[u8; BODY], drive: Drive, tape: &mut [u8]) -> Moved
+pub fn give(port: Port, staging: &[u8], drive: Drive, tape: &mut [u8]) -> Moved
+    requires { ⌜ length (now staging) ≡ bodySize ⌝ }
     ensures { λ r. ⌜ acted r (now (tape .exit))
         ≡ byteGiven (now (staging .entry)) (seat port drive (now (tape .entry))) (givenBefore (port .phase)) ⌝ }
 {

@@ -34,15 +34,15 @@ abbrev pub placeAt : ℕ → Phase
 placeAt zero = Rest
 placeAt (suc n) = Taking (suc n)
 
-given-place : (n : ℕ) → givenBefore (placeAt n) ≡ n
+pub given-place : (n : ℕ) → givenBefore (placeAt n) ≡ n
 given-place zero = refl
 given-place (suc n) = refl
 
-may-give : (n : ℕ) (d : Drive) (b : ℕ) → writes d ≡ true → inStepAt (placeAt n) d (Give b) ≡ true
+pub may-give : (n : ℕ) (d : Drive) (b : ℕ) → writes d ≡ true → inStepAt (placeAt n) d (Give b) ≡ true
 may-give zero d b h = h
 may-give (suc n) d b h = h
 
-give-event : (b : ℕ) → eventOf (2 ∷ b ∷ []) ≡ Own (Give b)
+pub give-event : (b : ℕ) → eventOf (2 ∷ b ∷ []) ≡ Own (Give b)
 unfolding eventOf bodiedEvent pick
 give-event b = refl
 
@@ -60,7 +60,7 @@ given-here g s n =
     (stored-here g (resting s) (s .drive) (s .tape))
 
 -- before the 512th the byte is staged in its place
-staged-there : (g : List ℕ) (n b : ℕ) → n < 511 → stagedByte n b g ≡ set g n b
+pub staged-there : (g : List ℕ) (n b : ℕ) → n < 511 → stagedByte n b g ≡ set g n b
 unfolding stagedByte pick
 staged-there g n b l = rw (lt-ltb n 511 l)
 

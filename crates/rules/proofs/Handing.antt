@@ -35,11 +35,11 @@ use Rattle.rules.specs.Promises.Strike.{AllTaken, RaisedLast, last, then
 use Rattle.rules.proofs.Seated.{Sits, Moves, sits-step}
 
 -- the phase in which n bytes of a block were taken
-abbrev takenAt : ℕ → Phase
+abbrev pub takenAt : ℕ → Phase
 takenAt zero = Rest
 takenAt (suc n) = Giving (suc n)
 
-may-take : (n : ℕ) (d : Drive) → reads d ≡ true → inStepAt (takenAt n) d Take ≡ true
+pub may-take : (n : ℕ) (d : Drive) → reads d ≡ true → inStepAt (takenAt n) d Take ≡ true
 may-take zero d h = h
 may-take (suc n) d h = refl
 
@@ -47,7 +47,7 @@ pub take-event : eventOf (3 ∷ []) ≡ Own Take
 unfolding eventOf bareEvent pick
 take-event = refl
 
-taken-is : (s : Seat) (n : ℕ) → foundAt (s .tape) (s .drive .head) ≡ Block → byteTaken s (takenAt n) ≡ handed s n
+pub taken-is : (s : Seat) (n : ℕ) → foundAt (s .tape) (s .drive .head) ≡ Block → byteTaken s (takenAt n) ≡ handed s n
 unfolding pick checked
 taken-is s zero f = rw f
 taken-is s (suc n) f = rw f

@@ -3,4 +3,4 @@ pub mod Walking
 pub mod Recorded
 pub mod Answers
 pub mod Holding
-mod Parts
+pub mod Parts

@@ -49,7 +49,7 @@ block-put [] s e l = absurd (not-suc-le-zero l)
 block-put (x ∷ xs) s e l = rw (take-all 512 s (omega (arith, e)), take-at s (drop 512 xs) 512 e, drop-at s (drop 512 xs) 512 e, e)
 
 -- the part from h on is the whole of it
-part-of : (t : List ℕ) (h : ℕ) → take (length t - h) (drop h t) ≡ drop h t
+pub part-of : (t : List ℕ) (h : ℕ) → take (length t - h) (drop h t) ≡ drop h t
 part-of t h = take-all (length t - h) (drop h t) (omega (arith, length-drop h t))
 
 part-back : (t p : List ℕ) (h : ℕ) → take h t ++ (p ++ drop (length t - h) (drop h t)) ≡ take h t ++ p

@@ -3,8 +3,8 @@ ghost use mathlib.Core.Path.{_≡_};
 ghost use Prim.Native.Nat.{_+_, _≤_};
 ghost use lib.ListN.{length};
 ghost use lib.Dec.{leb};
-ghost use Rattle.tape.specs.Record.{markRecord, blockRecord};
-ghost use Rattle.tape.specs.Recording.{ended, putIn, endedAt, written, markWritten, blockWritten, erased};
+ghost use Rattle.tape.specs.Record.{bodySize, markRecord, blockRecord};
+ghost use Rattle.tape.specs.Recording.{putIn, endedAt, written, markWritten, blockWritten, erased};
 use crate::BLOCK;
 use crate::BLOCK_SIZE;
 use crate::BODY;
@@ -72,7 +72,8 @@ pub fn record_mark(tape: &mut [u8], head: usize) -> Made
 }
 
 // A block at the head, if it and the spare bytes behind it have room; else the tape as found.
-pub fn record_block(tape: &mut [u8], head: usize, body: &[u8; BODY], spare: usize) -> Made
+pub fn record_block(tape: &mut [u8], head: usize, body: &[u8], spare: usize) -> Made
+    requires { ⌜ length (now body) ≡ bodySize ⌝ }
     ensures { λ r. ⌜ written r (now (tape .exit)) ≡ blockWritten (now (tape .entry)) head (now (body .entry)) spare ⌝ }
 {
     let n = tape.len();

@@ -77,7 +77,7 @@ fn answer_event(
         (lent (now (staging .exit)) (now (tape0 .exit)) (now (tape1 .exit)) (now (tape2 .exit)) (now (tape3 .exit)))
         (now (out .exit)) ⌝ }
 {
-    let turn = unit::step_core(core, staging, tape0, tape1, tape2, tape3, event);
+    let turn = unit::step_lent(core, staging, tape0, tape1, tape2, tape3, event);
     let answer = turn.answer;
     let lines = turn.lines;
     let after = turn.core;

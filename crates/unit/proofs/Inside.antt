@@ -1,6 +1,6 @@
 -- A byte within a block or an octet of a report, found by its place, is the book's step.
-use Prim.Native.Nat.{ℕ, _+_, _<_}
-use mathlib.Core.Path.{_≡_, refl, sym, ap, ap₂, _∙_}
+use Prim.Native.Nat.{ℕ, zero, suc, _+_, _<_}
+use mathlib.Core.Path.{_≡_, refl, sym, ap, ap₂, subst, _∙_}
 use mathlib.Core.Bool.{Bool, true, false, not, _&&_, _||_, false≢true}
 use mathlib.Core.List.{List}
 use native.Mathlib.Nat.{not-suc-le-zero}
@@ -15,7 +15,6 @@ use Rattle.rules.specs.declared.drive.Mode.the-variants.{Idle, Writing, Reading
 use Rattle.rules.specs.declared.phase.Phase.{Phase}
 use Rattle.rules.specs.declared.phase.Phase.the-variants.{Rest, Taking, Giving, Status}
 use Rattle.rules.specs.declared.unit.Core.{Core}
-use Rattle.rules.specs.declared.event.Act.{Act}
 use Rattle.rules.specs.declared.event.Act.the-variants.{Give, Take}
 use Rattle.rules.specs.declared.event.Event.{Event}
 use Rattle.rules.specs.declared.event.Event.the-variants.{Own}
@@ -28,16 +27,19 @@ use Rattle.rules.specs.Unit.{Lent, driveAt, putDrive, tapeAt, putStaging, atPha
 use Rattle.rules.specs.Lines.{linesAt, linesOf}
 use Rattle.rules.specs.Refusal.{possible, short, inStepAt}
 use Rattle.rules.specs.Edge.{isBlock}
-use Rattle.rules.specs.Effect.{seat, acted}
-use Rattle.rules.specs.Bytes.{handed, octetPlace, afterOctet, octetTaken}
+use Rattle.rules.specs.Effect.{hands}
+use Rattle.rules.specs.Bytes.{handed, octetPlace, afterOctet, octetTaken, byteTaken}
 use Rattle.rules.specs.Event.{bareEvent, bodiedEvent, eventOf}
-use Rattle.rules.specs.Step.{staged, stagedIn, act, stepped, done, takenTurn, landed, Steps}
-use Rattle.basis.proofs.Choosing.{both}
+use Rattle.rules.specs.Step.{staged, stagedIn, seatOf, act, stepped, done, takenTurn, landed, Steps}
+use Rattle.basis.proofs.Choosing.{both, choice-by}
 use Rattle.rules.proofs.Places.{put-back, tape-back}
+use Rattle.rules.proofs.Handing.{takenAt, may-take, taken-is}
+use Rattle.port.proofs.Whole.{is-block}
 use Rattle.unit.specs.declared.within.Next.{Next}
-use Rattle.unit.specs.Within.{nextOf, PhaseMoves}
+use Rattle.unit.specs.declared.within.Inside.{Inside}
 use Rattle.answers.specs.declared.looks.Seen.{Seen}
 use Rattle.answers.specs.Looks.{lookOf}
+use Rattle.unit.specs.Within.{nextOf, PhaseMoves, noInside, givenInside, takenInside, insideOf, InsideSteps}
 use Rattle.answers.specs.Moved.{movedTo, movedOn}
 use Rattle.answers.specs.Place.{within, onlyAt, givenPlace, takenPlace, octetsLeft, bodyOf}
 use Rattle.answers.specs.Settled.{settledBy}
@@ -161,46 +163,72 @@ next-there d t n so = go (reads d) (isBlock (foundAt t (d .head))) refl refl
     go true false p q = absurd (false≢true (rw (p, q) at so))
     go false b p q = absurd (false≢true (rw (p) at so))
 
+-- one event in a possible record with short tapes
+module _ (c : Core) (l : Lent) (event : List ℕ) (calm : (possible c && short l) ≡ true) where
+  abbrev d : Drive
+  d = driveAt c (c .port .selected)
+
+  abbrev t : List ℕ
+  t = tapeAt l (c .port .selected)
+
+  settles : (r : Turn) (l′ : Lent) (e : Event) → eventOf event ≡ e → stepped r l′ ≡ settledBy c true true l e → Steps c l event r l′
+  settles r l′ e is by =
+      let so = both (possible c) (short l) calm in
+      steps-by c l event r l′ _ e true true refl is (sym (so .0)) (sym (so .1)) by
+
+  -- a byte given, where n were given before and it is not the last
+  pub byte-given : (n b : ℕ) → givenBefore (c .port .phase) ≡ n → n < lastPlace → inStepAt (c .port .phase) d (Give b) ≡ true → writes d ≡ true
+      → eventOf event ≡ Own (Give b)
+      → Steps c l event (movedOn c (Taking (n + 1)) false 0 false) (putStaging l (staged (c .port .phase) (Give b) (l .staging)))
+  unfolding pick
+  byte-given n b before lt fits writing is =
+      let shown = lines-known c (Taking (n + 1)) false 0 false (writing-lines (d .mode) (d .exception) writing) in
+      let moves = phase-moves c l (Give b) (Taking (n + 1)) false 0 fits (rw (before, lt-ltb n lastPlace lt) refl) in
+      settles _ _ (Own (Give b)) is (ap (λ (x : Turn). stepped x (stagedIn c (Give b) l)) shown ∙ moves)
+
+  -- a byte taken, where n were taken before and it is not the last
+  pub byte-taken : (n : ℕ) → c .port .phase ≡ takenAt n → n < lastPlace → reads d ≡ true → isBlock (foundAt t (d .head)) ≡ true
+      → eventOf event ≡ Own Take → Steps c l event (movedOn c (Giving (n + 1)) true (getD t (d .head + 1 + n) 0) true) l
+  unfolding pick handed
+  byte-taken n at lt reading whole is =
+      let b = getD t (d .head + 1 + n) 0 in
+      let shown = lines-known c (Giving (n + 1)) true b true (reading-lines (d .mode) (d .exception) reading) in
+      let part : handed (seatOf c l) n ≡ hands false b (atPhase (Giving (n + 1)) (c .port)) d t = rw (lt-ltb n lastPlace lt) refl in
+      let moves = phase-moves c l Take (Giving (n + 1)) true b (rw (at) (may-take n d reading))
+      (ap (byteTaken (seatOf c l)) at ∙ taken-is (seatOf c l) n (is-block _ whole) ∙ part) in
+      settles _ _ (Own Take) is (ap (λ (x : Turn). stepped x l) shown ∙ moves)
+
+giving-at : (n : ℕ) → 0 < n → Giving n ≡ takenAt n
+giving-at zero some = absurd (not-suc-le-zero some)
+giving-at (suc n) some = refl
+
 -- found first by the step, where p and s tell whether the record is possible and the tapes are short
 module _ (c : Core) (l : Lent) (event : List ℕ) (r : Turn) (p s : Bool) (ok : p ≡ possible c) (fits : s ≡ short l) where
-  settles : (l′ : Lent) (e : Event) → (p && s) ≡ true → eventOf event ≡ e → stepped r l′ ≡ settledBy c true true l e → Steps c l event r l′
-  settles l′ e so is by =
-      let calm = both p s so in
-      steps-by c l event r l′ _ e true true refl is (sym (calm .0) ∙ ok) (sym (calm .1) ∙ fits) by
+  calm : (p && s) ≡ true → (possible c && short l) ≡ true
+  calm so = ap₂ _&&_ (sym ok) (sym fits) ∙ so
 
   -- a byte given within a block
   pub given-steps : (g : List ℕ) (n : ℕ) (seen : Seen) → n ≡ givenPlace (c .port .phase) event → 0 < n
       → seen ≡ lookOf (driveAt c (c .port .selected)) → ((p && s) && seen .writes) ≡ true
       → r ≡ movedOn c (Taking (n + 1)) false 0 false → g ≡ staged (c .port .phase) (Give (bodyOf event)) (l .staging)
       → Steps c l event r (putStaging l g)
-  unfolding pick
   given-steps g n seen is some looked so turn put =
-      let d = driveAt c (c .port .selected) in
-      let there = given-there (c .port .phase) event n is some in
       let free = both (p && s) (seen .writes) so in
-      let writing : writes d ≡ true = ap (λ (x : Seen). x .writes) (sym looked) ∙ free .1 in
-      let shown = lines-known c (Taking (n + 1)) false 0 false (writing-lines (d .mode) (d .exception) writing) in
-      let moves = phase-moves c l (Give (bodyOf event)) (Taking (n + 1)) false 0 (rw (there .0) writing)
-      (rw (there .0, lt-ltb n lastPlace (there .1)) refl) in
-      settles (putStaging l g) (Own (Give (bodyOf event))) (free .0) (there .2)
-      (ap₂ (λ (x : Turn) (y : List ℕ). stepped x (putStaging l y)) (turn ∙ shown) put ∙ moves)
+      let writing : writes (driveAt c (c .port .selected)) ≡ true = ap (λ (x : Seen). x .writes) (sym looked) ∙ free .1 in
+      let place = given-there (c .port .phase) event n is some in
+      rw (turn, put) (byte-given c l event (calm (free .0)) n (bodyOf event) (ap givenBefore (place .0)) (place .1) (rw (place .0) writing) writing (place .2))
 
   -- a byte taken within a block
   pub taken-steps : (n : ℕ) (next : Next) → n ≡ takenPlace (c .port .phase) event → 0 < n
       → next ≡ nextOf (driveAt c (c .port .selected)) (tapeAt l (c .port .selected)) n → ((p && s) && next .there) ≡ true
       → r ≡ movedOn c (Giving (n + 1)) true (next .byte) true → Steps c l event r l
-  unfolding pick handed
   taken-steps n next is some byte so turn =
-      let d = driveAt c (c .port .selected) in
-      let t = tapeAt l (c .port .selected) in
-      let there = taken-there (c .port .phase) event n is some in
       let free = both (p && s) (next .there) so in
-      let found = next-there d t n (ap (λ (x : Next). x .there) (sym byte) ∙ free .1) in
-      let here : next .byte ≡ getD t (d .head + 1 + n) 0 = ap (λ (x : Next). x .byte) byte ∙ found .1 .1 in
-      let shown = lines-known c (Giving (n + 1)) true (next .byte) true (reading-lines (d .mode) (d .exception) (found .0)) in
-      let moves = phase-moves c l Take (Giving (n + 1)) true (next .byte) (rw (there .0) refl)
-      (rw (there .0, found .1 .0, lt-ltb n lastPlace (there .1), here) refl) in
-      settles l (Own Take) (free .0) (there .2) (ap (λ (x : Turn). stepped x l) (turn ∙ shown) ∙ moves)
+      let place = taken-there (c .port .phase) event n is some in
+      let found = next-there _ _ n (ap (λ (x : Next). x .there) (sym byte) ∙ free .1) in
+      let here : next .byte ≡ getD (tapeAt l (c .port .selected)) (driveAt c (c .port .selected) .head + 1 + n) 0 =
+      ap (λ (x : Next). x .byte) byte ∙ found .1 .1 in
+      rw (turn, here) (byte-taken c l event (calm (free .0)) n (place .0 ∙ giving-at n some) (place .1) (found .0) (found .1 .0) (place .2))
 
   -- an octet of a report
   pub octet-steps : (k b : ℕ) (after : Core) → k ≡ octetsLeft (c .port .phase) event → 0 < k → (p && s) ≡ true
@@ -209,4 +237,30 @@ module _ (c : Core) (l : Lent) (event : List ℕ) (r : Turn) (p s : Bool) (ok : 
   octet-steps k b after is some so turn byte moved =
       let there = octet-there (c .port .phase) event k is some in
       let moves = phase-moves c l Take (afterOctet k) true b (rw (there .0) refl) (rw (there .0, byte) refl) in
-      settles l (Own Take) so (there .1) (ap (λ (x : Turn). stepped x l) (turn ∙ ap (takenTurn false true b) moved) ∙ moves)
+      settles c l event (calm so) r l (Own Take) (there .1) (ap (λ (x : Turn). stepped x l) (turn ∙ ap (takenTurn false true b) moved) ∙ moves)
+
+-- what an event within a block comes to is the book's step
+module _ (c : Core) (l : Lent) (event : List ℕ) where
+  abbrev StepsBy : Inside → Type 0
+  StepsBy i = i .there ≡ true → Steps c l event (movedOn c (i .phase) (i .given) (i .byte) (i .given)) (stagedIn c (i .act) l)
+
+  given-inside : 0 < givenPlace (c .port .phase) event → StepsBy (givenInside c (possible c && short l) event (givenPlace (c .port .phase) event))
+  given-inside some =
+      choice-by StepsBy _
+      (λ so there. given-steps c l event _ (possible c) (short l) refl refl _ _ (lookOf (driveAt c (c .port .selected))) refl some refl so refl refl)
+      (λ so there. absurd (false≢true there))
+
+  taken-inside : 0 < takenPlace (c .port .phase) event
+      → StepsBy (takenInside (possible c && short l) (takenPlace (c .port .phase) event)
+      (nextOf (driveAt c (c .port .selected)) (tapeAt l (c .port .selected)) (takenPlace (c .port .phase) event)))
+  taken-inside some =
+      choice-by StepsBy _ (λ so there. taken-steps c l event _ (possible c) (short l) refl refl _ _ refl some refl so refl)
+      (λ so there. absurd (false≢true there))
+
+pub inside-steps : InsideSteps
+unfolding insideOf
+inside-steps c l event i is there =
+    let P : Inside → Type 0 = StepsBy c l event in
+    let none : P noInside = λ no. absurd (false≢true no) in
+    subst P (sym is) (choice-by P _ (λ so. given-inside c l event (ltb-true _ _ so))
+    (λ so. choice-by P _ (λ more. taken-inside c l event (ltb-true _ _ more)) (λ more. none))) there

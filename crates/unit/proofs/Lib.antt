@@ -1,5 +1,8 @@
 pub mod Demands
 pub mod Outcomes
 mod Bytes
+pub mod Handover
+mod Ahead
+mod Legs
 mod Settling
-mod Inside
+pub mod Inside

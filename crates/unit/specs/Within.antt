@@ -1,25 +1,30 @@
 -- A byte within a block, and an octet of a report: nothing of the record changes but the phase.
 use Prim.Native.Nat.{ℕ, _+_}
 use mathlib.Core.Path.{_≡_}
-use mathlib.Core.Bool.{Bool, true, false}
+use mathlib.Core.Bool.{Bool, true, false, _&&_}
 use mathlib.Core.List.{List}
 use lib.ListN.{getD}
+use lib.Dec.{ltb}
 use Rattle.basis.specs.Choice.{pick}
 use Rattle.tape.specs.Record.{foundAt}
 use Rattle.rules.specs.declared.drive.Drive.{Drive}
 use Rattle.rules.specs.declared.phase.Phase.{Phase}
 use Rattle.rules.specs.declared.unit.Core.{Core}
+use Rattle.rules.specs.declared.phase.Phase.the-variants.{Rest, Taking, Giving}
 use Rattle.rules.specs.declared.event.Act.{Act}
+use Rattle.rules.specs.declared.event.Act.the-variants.{Give, Take}
 use Rattle.rules.specs.declared.event.Event.the-variants.{Own}
-use Rattle.rules.specs.Drive.{reads}
-use Rattle.rules.specs.Unit.{Lent, atPhase}
-use Rattle.rules.specs.Refusal.{inStepAt}
+use Rattle.rules.specs.Drive.{writes, reads}
+use Rattle.rules.specs.Unit.{Lent, driveAt, tapeAt, atPhase}
+use Rattle.rules.specs.Refusal.{possible, short, inStepAt}
 use Rattle.rules.specs.Edge.{isBlock}
 use Rattle.rules.specs.Effect.{acted}
-use Rattle.rules.specs.Step.{act, seatOf, stagedIn, stepped, takenTurn}
-use Rattle.answers.specs.Moved.{movedTo}
+use Rattle.rules.specs.Step.{act, seatOf, stagedIn, stepped, takenTurn, Steps}
+use Rattle.answers.specs.Moved.{movedTo, movedOn}
+use Rattle.answers.specs.Place.{givenPlace, takenPlace, bodyOf}
 use Rattle.answers.specs.Settled.{settledBy}
 use Rattle.unit.specs.declared.within.Next.{Next}
+use Rattle.unit.specs.declared.within.Inside.{Inside}
 
 -- Byte n of the whole block at the head of a drive that gives data, if there is one.
 abbrev pub noByte : Next
@@ -28,6 +33,35 @@ noByte = record { there = false; byte = 0 }
 unfoldable pub nextOf : Drive → List ℕ → ℕ → Next
 nextOf d t n =
     pick (reads d) (pick (isBlock (foundAt t (d .head))) (record { there = true; byte = getD t (d .head + 1 + n) 0 }) noByte) noByte
+
+-- What an event comes to that is a byte within a block: the act, the phase after it, and the byte that it hands out.
+abbrev pub inBlock : Act → Phase → Bool → ℕ → Inside
+inBlock a ph given byte = record { there = true; act = a; phase = ph; given = given; byte = byte }
+
+abbrev pub noInside : Inside
+noInside = record { there = false; act = Take; phase = Rest; given = false; byte = 0 }
+
+-- Given to a drive that writes, or taken from one that has a byte there; `calm` says that the record is possible and no tape too long.
+abbrev pub givenInside : Core → Bool → List ℕ → ℕ → Inside
+givenInside c calm event n =
+    pick (calm && writes (driveAt c (c .port .selected))) (inBlock (Give (bodyOf event)) (Taking (n + 1)) false 0) noInside
+
+abbrev pub takenInside : Bool → ℕ → Next → Inside
+takenInside calm n next = pick (calm && next .there) (inBlock Take (Giving (n + 1)) true (next .byte)) noInside
+
+abbrev pub nextInside : Core → Bool → List ℕ → ℕ → Inside
+nextInside c calm t n = pick (ltb 0 n) (takenInside calm n (nextOf (driveAt c (c .port .selected)) t n)) noInside
+
+unfoldable pub insideOf : Core → Bool → List ℕ → List ℕ → Inside
+insideOf c calm t event =
+    pick (ltb 0 (givenPlace (c .port .phase) event)) (givenInside c calm event (givenPlace (c .port .phase) event))
+    (nextInside c calm t (takenPlace (c .port .phase) event))
+
+-- IT IS THE BOOK'S STEP, with a byte given in the staging block.
+abbrev pub InsideSteps : Type 0
+InsideSteps =
+    (c : Core) (l : Lent) (event : List ℕ) (i : Inside) → i ≡ insideOf c (possible c && short l) (tapeAt l (c .port .selected)) event
+    → i .there ≡ true → Steps c l event (movedOn c (i .phase) (i .given) (i .byte) (i .given)) (stagedIn c (i .act) l)
 
 -- AN ACT THAT MOVES THE PHASE ALONE, in a possible record with short tapes, is settled by the turn that says so:
 -- the law of all that is looked for first.

@@ -1,5 +1,7 @@
 // An act of the host, with the record of the selected drive and its own tape of the four.
 ghost use mathlib.Core.Path.{_≡_};
+ghost use lib.ListN.{length};
+ghost use Rattle.tape.specs.Record.{bodySize};
 ghost use Rattle.unit.specs.Own.{ownTurn, ownBy};
 use answers::done;
 use answers::in_step;
@@ -13,7 +15,6 @@ use rules::Answer;
 use rules::Core;
 use rules::Drive;
 use rules::Turn;
-use tape::BODY;
 
 // Refused, or a byte given staged first and then the act: nothing is in reach but this drive's tape.
 pub(crate) fn act_on(
@@ -21,10 +22,11 @@ pub(crate) fn act_on(
     possible: bool,
     short: bool,
     drive: Drive,
-    staging: &mut [u8; BODY],
+    staging: &mut [u8],
     tape: &mut [u8],
     a: Act,
 ) -> Turn
+    requires { ⌜ length (now staging) ≡ bodySize ⌝ }
     ensures { λ r. ⌜ ownTurn r (now (staging .exit)) (now (tape .exit))
         ≡ ownBy core possible short drive (now (staging .entry)) (now (tape .entry)) a ⌝ }
 {

@@ -1,4 +1,7 @@
 // One event: the drive that it means, then refusal first and effect second.
+ghost use mathlib.Core.Path.{_≡_};
+ghost use lib.ListN.{length};
+ghost use Rattle.tape.specs.Record.{bodySize};
 ghost use Rattle.rules.specs.Unit.{lent};
 ghost use Rattle.rules.specs.Step.{Steps};
 ghost use Rattle.unit.specs.Turn.{turnOfOutcome};
@@ -32,16 +35,17 @@ use rules::Turn;
 use rules::Unit;
 use tape::BODY;
 
-// One event on a core, with the staging block lent beside the four tapes.
-pub fn step_core(
+// One event on a core, with the 512 bytes of the staging block lent from where they stand, beside the four tapes.
+pub fn step_lent(
     core: Core,
-    staging: &mut [u8; BODY],
+    staging: &mut [u8],
     tape0: &mut [u8],
     tape1: &mut [u8],
     tape2: &mut [u8],
     tape3: &mut [u8],
     event: &[u8],
 ) -> Turn
+    requires { ⌜ length (now staging) ≡ bodySize ⌝ }
     ensures { λ r. ⌜ Steps core
         (lent (now (staging .entry)) (now (tape0 .entry)) (now (tape1 .entry)) (now (tape2 .entry)) (now (tape3 .entry)))
         (now (event .entry)) r
@@ -90,6 +94,24 @@ pub fn step_core(
             act_on(core, possible, short, core.drive3, staging, tape3, a)
         }
     }
+}
+
+// The same with a staging block that is an array.
+pub fn step_core(
+    core: Core,
+    staging: &mut [u8; BODY],
+    tape0: &mut [u8],
+    tape1: &mut [u8],
+    tape2: &mut [u8],
+    tape3: &mut [u8],
+    event: &[u8],
+) -> Turn
+    ensures { λ r. ⌜ Steps core
+        (lent (now (staging .entry)) (now (tape0 .entry)) (now (tape1 .entry)) (now (tape2 .entry)) (now (tape3 .entry)))
+        (now (event .entry)) r
+        (lent (now (staging .exit)) (now (tape0 .exit)) (now (tape1 .exit)) (now (tape2 .exit)) (now (tape3 .exit))) ⌝ }
+{
+    step_lent(core, staging, tape0, tape1, tape2, tape3, event)
 }
 
 // One event on a unit, which holds its staging block.

@@ -1,19 +1,34 @@
-// A byte within a block, off the tape of the selected drive.
+// A byte within a block, given or taken: the phase moves on, and nothing else of the record.
 ghost use mathlib.Core.Path.{_≡_};
 ghost use Prim.Native.Nat.{_+_, _≤_, _<_};
 ghost use lib.ListN.{length, getD};
 ghost use Rattle.tape.specs.Record.{blockSize};
 ghost use Rattle.rules.specs.Phase.{lastPlace};
 ghost use Rattle.rules.specs.Unit.{oneOf, driveAt};
-ghost use Rattle.unit.specs.Within.{nextOf};
+ghost use Rattle.unit.specs.Within.{nextOf, inBlock, noInside, insideOf};
+use answers::body;
+use answers::given_place;
+use answers::look;
+use answers::taken_place;
 use port::is_block;
+use rules::Act;
 use rules::Core;
 use rules::Drive;
+use rules::Phase;
 use tape::found_at;
 
 // A byte of the tape, where there is one.
 pub(crate) struct Next {
     pub there: bool,
+    pub byte: u8,
+}
+
+// What an event comes to that is a byte within a block: the act, the phase after it, and the byte that it hands out.
+pub struct Inside {
+    pub there: bool,
+    pub act: Act,
+    pub phase: Phase,
+    pub given: bool,
     pub byte: u8,
 }
 
@@ -65,4 +80,62 @@ pub(crate) fn next_byte(
         2 => next_of(core.drive2, tape2, n),
         _ => next_of(core.drive3, tape3, n),
     }
+}
+
+fn in_block(act: Act, phase: Phase, given: bool, byte: u8) -> Inside
+    ensures { λ r. ⌜ r ≡ inBlock act phase given byte ⌝ }
+{
+    Inside {
+        there: true,
+        act,
+        phase,
+        given,
+        byte,
+    }
+}
+
+fn no_inside() -> Inside
+    ensures { λ r. ⌜ r ≡ noInside ⌝ }
+{
+    Inside {
+        there: false,
+        act: Act::Take,
+        phase: Phase::Rest,
+        given: false,
+        byte: 0,
+    }
+}
+
+// Looked for first, where the record is possible and no tape too long.
+pub fn within_block(
+    core: Core,
+    calm: bool,
+    tape0: &[u8],
+    tape1: &[u8],
+    tape2: &[u8],
+    tape3: &[u8],
+    event: &[u8],
+) -> Inside
+    ensures { λ r. ⌜ r ≡ insideOf core calm
+        (oneOf (core .port .selected) (now (tape0 .entry)) (now (tape1 .entry)) (now (tape2 .entry)) (now (tape3 .entry)))
+        (now (event .entry)) ⌝ }
+{
+    let port = core.port;
+    let phase = port.phase;
+    let n = given_place(phase, event);
+    if 0 < n {
+        if calm & look(core, port.selected).writes {
+            return in_block(Act::Give(body(event)), Phase::Taking(n + 1), false, 0);
+        }
+        return no_inside();
+    }
+    let m = taken_place(phase, event);
+    if 0 < m {
+        let next = next_byte(core, tape0, tape1, tape2, tape3, m);
+        if calm & next.there {
+            return in_block(Act::Take, Phase::Giving(m + 1), true, next.byte);
+        }
+        return no_inside();
+    }
+    no_inside()
 }

@@ -17,12 +17,28 @@ pub enum Answer {
     TapeTooLong = 6,
 }
 
+impl Answer {
+    /// The event was taken, with EXCEPTION raised or without; all other answers refuse it.
+    pub fn is_taken(self) -> bool {
+        matches!(self, Answer::Taken | Answer::Exception)
+    }
+}
+
 /// What the host sees of one event.
 #[derive(Clone, Copy, PartialEq, Eq, Debug)]
 pub struct Outcome {
     pub answer: Answer,
     pub byte: Option<u8>,
     pub lines: Lines,
+}
+
+impl Outcome {
+    /// Nothing can be said of an impossible record, so its lines are all down.
+    pub const IMPOSSIBLE: Outcome = Outcome {
+        answer: Answer::ImpossibleRecord,
+        byte: None,
+        lines: Lines { ready: false, exception: false, direction: false },
+    };
 }
 
 /// What a rule did: whether it raised EXCEPTION on a drive, and the byte it handed out.
@@ -43,10 +59,7 @@ impl Unit {
     /// One event: the refusals are tried in their order, then the event's rule runs.
     pub fn step(&mut self, tapes: &mut Tapes, event: &[u8]) -> Outcome {
         match self.accept(tapes, event) {
-            // Nothing can be said of an impossible record, so its lines are all down.
-            Err(Answer::ImpossibleRecord) => {
-                Outcome { answer: Answer::ImpossibleRecord, byte: None, lines: Lines::default() }
-            }
+            Err(Answer::ImpossibleRecord) => Outcome::IMPOSSIBLE,
             Err(answer) => Outcome { answer, byte: None, lines: self.lines() },
             Ok(event) => {
                 let Done { raised, byte } = self.rule(tapes, event);

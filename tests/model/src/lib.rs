@@ -11,6 +11,7 @@ pub mod compare;
 pub mod events;
 pub mod lines;
 pub mod listing;
+pub mod many;
 pub mod mutants;
 mod octets;
 mod online;
@@ -23,6 +24,8 @@ pub mod tape;
 #[cfg(test)]
 mod bad_records;
 #[cfg(test)]
+mod bytes_in_one_call;
+#[cfg(test)]
 mod easy_to_get_wrong;
 #[cfg(test)]
 mod late_blocks;
@@ -34,6 +37,7 @@ mod set_records;
 pub use answers::{Answer, Outcome};
 pub use events::Event;
 pub use lines::Lines;
+pub use many::Went;
 pub use replay::replay;
 pub use state::{Drive, Latched, Mode, Phase, Unit};
 

@@ -11,11 +11,10 @@ pub struct Lines {
 }
 
 impl Unit {
-    /// The lines of the record as it stands; all down if no drive is selected.
+    /// The lines of the record as it stands, also of one that cannot be; there a number above 3
+    /// selects drive 3.
     pub fn lines(&self) -> Lines {
-        let Some(drive) = self.selected_drive() else {
-            return Lines::default();
-        };
+        let drive = &self.drives[self.selected.min(3) as usize];
         let status = matches!(self.phase, Phase::Status(_));
         Lines {
             ready: !drive.exception && (status || self.phase == Phase::Rest),

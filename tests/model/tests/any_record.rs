@@ -36,7 +36,7 @@ fn every_event_in_every_record_has_an_outcome_that_keeps_to_the_frame() {
     let mut seen = [0; 7];
     each_step(20, |Step { before, lent, event, outcome, unit, tapes }| {
         seen[outcome.answer as usize] += 1;
-        let refused = !matches!(outcome.answer, Answer::Taken | Answer::Exception);
+        let refused = !outcome.answer.is_taken();
         assert_eq!(before.impossible(), outcome.answer == Answer::ImpossibleRecord);
         assert!(!refused || (unit == before && tapes == lent && outcome.byte.is_none()));
         assert!(refused || !unit.impossible());
@@ -106,8 +106,10 @@ fn late_is_set_by_write_counted_by_blocks_and_ended_with_the_mode() {
 fn a_512th_byte_ends_the_writing_exactly_where_the_documents_say() {
     let mut came = [[0; 2]; 2];
     each_step(23, |Step { before, lent, event, outcome, unit, .. }| {
-        let taken = matches!(outcome.answer, Answer::Taken | Answer::Exception);
-        if !taken || before.phase != Phase::Taking(511) || event.first() != Some(&0x02) {
+        if !outcome.answer.is_taken()
+            || before.phase != Phase::Taking(511)
+            || event.first() != Some(&0x02)
+        {
             return;
         }
         let at = before.selected as usize;

@@ -1,14 +1,14 @@
 //! Frames and replies as bytes, and the frames that generators make.
 
 use model::probe::board::{Bench, Model};
-use model::probe::frame::{Frame, Lent, Step};
-use model::probe::generate::{cases, Case};
+use model::probe::frame::{Asked, Frame, Lent, Step};
+use model::probe::generate::{cases, Case, FRAMES};
 use model::probe::reply::{next, Reply, Trimmed};
 use std::collections::HashSet;
 
 /// The first case of each generator.
 fn firsts() -> impl Iterator<Item = Case> {
-    cases(2_200_000).into_iter().filter(|case| case.number == 0)
+    cases(FRAMES).into_iter().filter(|case| case.number == 0)
 }
 
 #[test]
@@ -27,25 +27,39 @@ fn frames_and_replies_go_there_and_back() {
     }
 }
 
+/// A frame with little in it, as bytes.
+fn small(asked: Asked) -> Vec<u8> {
+    let tapes = std::array::from_fn(|_| Lent { length: 9, at: 2, given: vec![1, 2] });
+    let mut bytes = Vec::new();
+    Frame::Step(Step { record: vec![7; 3], tapes, asked }).write(&mut bytes);
+    bytes
+}
+
+/// What is said of these bytes where one of them is another.
+fn refusal(mut bytes: Vec<u8>, at: usize, byte: u8) -> String {
+    bytes[at] = byte;
+    Frame::read(&mut &bytes[..]).expect_err("it is none")
+}
+
 #[test]
 fn what_is_no_frame_is_refused() {
-    let tapes = std::array::from_fn(|_| Lent { length: 9, at: 2, given: vec![1, 2] });
-    let step = Step { record: vec![7; 3], tapes, event: vec![6] };
-    let mut bytes = Vec::new();
-    Frame::Step(step).write(&mut bytes);
     assert_eq!(Frame::read(&mut &[][..]), Ok(None));
-    for cut in 1..bytes.len() {
-        assert_eq!(Frame::read(&mut &bytes[..cut]), Err("cut off".into()));
+    for asked in [Asked::Event(vec![6]), Asked::Give(vec![6; 3]), Asked::Take(vec![6; 3])] {
+        let bytes = small(asked);
+        for cut in 1..bytes.len() {
+            assert_eq!(Frame::read(&mut &bytes[..cut]), Err("cut off".into()));
+        }
+        let with = |at: usize, byte: u8| refusal(bytes.clone(), at, byte);
+        assert_eq!(with(0, b'x'), "no frame begins with 78");
+        assert_eq!(with(3, 9), "a record of 589827 bytes");
+        assert_eq!(with(8, 3), "a tape of 3 bytes with 2 given from 2");
+        assert_eq!(with(11, 2), "a tape of 33554441 bytes with 2 given from 2");
     }
-    let with = |at: usize, byte: u8| {
-        let mut bytes = bytes.clone();
-        bytes[at] = byte;
-        Frame::read(&mut &bytes[..]).expect_err("it is none")
-    };
-    assert_eq!(with(0, b'x'), "no frame begins with 78");
-    assert_eq!(with(3, 9), "a record of 589827 bytes");
-    assert_eq!(with(8, 3), "a tape of 3 bytes with 2 given from 2");
-    assert_eq!(with(11, 2), "a tape of 33554441 bytes with 2 given from 2");
+    for asked in [Asked::Give(vec![6; 3]), Asked::Take(vec![6; 3])] {
+        let bytes = small(asked);
+        let third = bytes.len() - 5;
+        assert_eq!(refusal(bytes, third, 1), "a call of 65539 bytes");
+    }
 }
 
 #[test]

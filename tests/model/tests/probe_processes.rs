@@ -1,5 +1,6 @@
 //! The comparison of frames with programs, as processes.
 
+use model::probe::mutants;
 use std::fs;
 use std::io::Write;
 use std::path::PathBuf;
@@ -20,7 +21,7 @@ fn compare(words: &[&str], folder: &str) -> (Output, Vec<String>, PathBuf) {
 fn the_models_own_program_passes() {
     let (output, lines, keep) = compare(&["--case", "0", "--seed", "5"], "probe-self");
     assert!(output.status.success(), "{lines:#?}");
-    assert_eq!(lines.last().map(String::as_str), Some("25 passed, 0 failed"));
+    assert_eq!(lines.last().map(String::as_str), Some("35 passed, 0 failed"));
     assert!(lines[0].ends_with("seed 5") && !keep.exists());
 }
 
@@ -42,6 +43,30 @@ fn a_broken_board_is_told_kept_and_made_plain() {
     let (output, lines, _) = compare(&[&file[..], &["--mutant", "6"]].concat(), "probe-file");
     assert_eq!(output.status.code(), Some(1));
     assert_eq!(lines.last().map(String::as_str), Some("0 passed, 1 failed"));
+}
+
+#[test]
+fn a_broken_call_with_many_bytes_is_told_and_made_short() {
+    let broken = |name: &str| {
+        let number = mutants::numbers().find(|&number| mutants::name(number) == name);
+        number.expect("there is such a mutant").to_string()
+    };
+    for (name, told) in [
+        ("many: a byte refused is counted", "bytes: program 1 given, model 0 given"),
+        ("many: an event without a byte puts 00", "buffer at 0: program 00, model 5A"),
+        ("many: goes on after answer 1", "answer: program 02, model 01"),
+    ] {
+        let number = broken(name);
+        let words = ["--mutant", &number, "--first", "--jobs", "1"];
+        let many = ["--generator", "many bytes from every place in a block"];
+        let (output, lines, _) = compare(&[&words[..], &many].concat(), "probe-many");
+        assert_eq!(output.status.code(), Some(1));
+        assert!(lines.iter().any(|line| line.contains(told)), "{lines:#?}");
+        // The plainest comes first: few bytes, and all alike.
+        let asked = lines.iter().find(|line| line.contains(" give ") || line.contains(" take "));
+        let asked = asked.expect("the frame is shown");
+        assert!(asked.ends_with(": 5A") || asked.ends_with(": 5A 5A"), "{asked}");
+    }
 }
 
 #[test]

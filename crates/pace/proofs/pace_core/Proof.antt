@@ -1,116 +1,43 @@
--- A fresh core stands where the whole run is still to come.
-use Prim.Native.Nat.{_≤_, _-_}
-use native.Mathlib.Omega.{arith}
-use mathlib.Core.Path.{refl}
-use lib.ListN.{length, drop, replicate}
-use Rattle.rules.specs.Unit.{lent, freshCore}
-use Rattle.rules.specs.Ran.{UnderWay}
-use Rattle.rules.proofs.Ran.{loop-laws}
-use Rattle.pace.specs.Pairs.{pairsOf}
-use Rattle.pace.proofs.Turns.{pairs-cut, pairs-end, paced-of}
+-- What the world at the end of the run has.
+use Rattle.pace.proofs.Turns.{paced-of}
 use borrow.Author.Needs.{needs}
 use Rattle.pace.proofs.pace_core.Statement.{statement}
 use Rattle.pace.proofs.pace_core.Tie as tie
 
-abbrev Inv-loop : tie.InvT-loop
-Inv-loop tape0₀ tape1₀ tape2₀ tape3₀ pairs staging₀ after₀ i₀ tape0 tape1 tape2 tape3 staging after i =
-    UnderWay freshCore (lent (replicate 512 0) tape0₀ tape1₀ tape2₀ tape3₀) (pairsOf pairs) after (lent staging tape0 tape1 tape2 tape3) (pairsOf (drop i pairs))
-    × (i ≤ length pairs)
-
-abbrev μ-loop : tie.MeasureT-loop
-μ-loop tape0₀ tape1₀ tape2₀ tape3₀ pairs staging₀ after₀ i₀ tape0 tape1 tape2 tape3 staging after i = length pairs - i
-
-fresh-requires : tie.Need-fresh-requires Inv-loop μ-loop
+fresh-requires : tie.Need-fresh-requires
 fresh-requires c κs = search needs
 
-loop-holds : tie.Need-loop-holds Inv-loop μ-loop
-loop-holds c = rw (c .fresh .ensures) (loop-laws .begins _ _ _, omega arith)
+slice-aggregate-run-core : tie.Need-slice-aggregate-run-core
+slice-aggregate-run-core c = search needs
 
-add-loop : tie.Need-add-loop Inv-loop μ-loop
-add-loop c = omega (arith, c .loop .inv .1, c .before .before .before .before .before .before .before .good)
+run-core-requires : tie.Need-run-core-requires
+run-core-requires c κs = search needs
 
-shared-slice-read-kind-size : tie.Need-shared-slice-read-kind-size Inv-loop μ-loop
-shared-slice-read-kind-size c = search needs
-
-kind-size-requires : tie.Need-kind-size-requires Inv-loop μ-loop
-kind-size-requires c κs = search needs
-
-add-end : tie.Need-add-end Inv-loop μ-loop
-add-end c = omega (arith, c .kind-size .ensures .1, c .before .before .loop-test .taken, c .before .before .before .before .before .before .before .before .before .before .good)
-
-sub-step-core : tie.Need-sub-step-core Inv-loop μ-loop
-sub-step-core c = search needs
-
-part-step-core-start : tie.Need-part-step-core-start Inv-loop μ-loop
-part-step-core-start c = search needs
-
-part-step-core-end : tie.Need-part-step-core-end Inv-loop μ-loop
-part-step-core-end c = search needs
-
-step-core-requires : tie.Need-step-core-requires Inv-loop μ-loop
-step-core-requires c κs = search needs
-
-add-i : tie.Need-add-i Inv-loop μ-loop
-add-i c =
-    let stepping = c .before .before .before .before .before .before .before .before .before in
-    let test = stepping .before .before .before .before .before .before .before .before .before in
-    omega (arith, test .loop-test .taken, test .before .before .before .before .before .before .before .before .good)
-
-loop-less : tie.Need-loop-less Inv-loop μ-loop
-loop-less c = search needs
-
-loop-again : tie.Need-loop-again Inv-loop μ-loop
-loop-again c =
-    let stepping = c .before .before .before .before .before .before .before .before .before in
-    let sized = stepping .before .before .before .before .before .before .before in
-    let test = sized .before .before in
-    let at = test .before .loop in
-    let pairs = test .before .before .before .before .before .before .before .before .args .pairs .now in
-    let size = sized .kind-size .ensures in
-    let cut = pairs-cut pairs (at .i) _ _ (test .loop-test .taken) (size .0) (size .1) refl in
-    let kept = stepping .step-core .kept .1 .1 in (
-      loop-laws .goes-on (at .inv .0) (stepping .step-core .ensures) cut
-          (record { size0 = kept .0; size1 = kept .1 .0; size2 = kept .1 .1 .0; size3 = kept .1 .1 .1 .0 }),
-      omega (arith, test .loop-test .taken),
-    )
-
-same-length : tie.Need-same-length Inv-loop μ-loop
+same-length : tie.Need-same-length
 same-length c = search needs
 
-same-length-2 : tie.Need-same-length-2 Inv-loop μ-loop
+same-length-2 : tie.Need-same-length-2
 same-length-2 c = search needs
 
-same-length-3 : tie.Need-same-length-3 Inv-loop μ-loop
+same-length-3 : tie.Need-same-length-3
 same-length-3 c = search needs
 
-same-length-4 : tie.Need-same-length-4 Inv-loop μ-loop
+same-length-4 : tie.Need-same-length-4
 same-length-4 c = search needs
 
-returns : tie.Need-returns Inv-loop μ-loop
+returns : tie.Need-returns
 returns c =
-    let pairs = c .before .before .before .before .before .before .before .before .args .pairs .now in
-    let done = loop-laws .ends (c .before .loop .inv .0) (pairs-end pairs (c .before .loop .i) (c .loop-test .left)) in
-    paced-of _ _ _ _ pairs _ _ _ _ _ _ done
+    let c9 = c .before .before .before .before .before .before .before .before .before in
+    let a = c9 .before .before .before .before .before .before .before .before .before .before .before .before .args in
+    paced-of _ _ _ _ (a .pairs .now) _ _ _ _ _ _ (rw (c9 .before .before .before .before .before .before .fresh .ensures) at (c9 .run-core .ensures))
 
 pub pace-core-spec : {M : Type 1} → statement M
 pace-core-spec =
     tie.close
     (tie.spec
-    Inv-loop
-    μ-loop
     fresh-requires
-    loop-holds
-    add-loop
-    shared-slice-read-kind-size
-    kind-size-requires
-    add-end
-    sub-step-core
-    part-step-core-start
-    part-step-core-end
-    step-core-requires
-    add-i
-    loop-less
-    loop-again
+    slice-aggregate-run-core
+    run-core-requires
     same-length
     same-length-2
     same-length-3

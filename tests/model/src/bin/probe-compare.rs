@@ -14,7 +14,7 @@ use std::time::{Duration, Instant};
 const USAGE: &str = "usage: probe-compare [OPTIONS] [-- PROGRAM ARG...]
   PROGRAM reads frames and writes replies; without one the model's own is compared
   --seed N       makes these frames (1)
-  --frames N     so many at least (2200000)
+  --frames N     so many at least (2350000)
   --generator G  those of this generator alone, which --generators lists
   --case N       this case of each generator alone
   --jobs N       programs at a time (2)
@@ -63,7 +63,7 @@ fn main() -> ExitCode {
 fn options(mut words: impl Iterator<Item = String>) -> Result<Options, String> {
     let mut options = Options {
         seed: 1,
-        frames: 2_200_000,
+        frames: generate::FRAMES,
         generator: None,
         case: None,
         jobs: 2,

@@ -1,14 +1,17 @@
 //! Models with one rule broken on purpose: a comparison that misses one of them has no teeth.
 
 mod bytes;
+mod counted;
 mod edges;
 pub mod hidden;
 mod kept;
 mod kinds;
 mod late;
+pub mod many;
 mod orders;
 mod refused;
 mod status;
+mod stretches;
 mod text;
 
 use crate::events;
@@ -202,6 +205,6 @@ impl Scene<'_> {
     }
 
     fn taken(&self) -> bool {
-        matches!(self.outcome.answer, Answer::Taken | Answer::Exception)
+        self.outcome.answer.is_taken()
     }
 }

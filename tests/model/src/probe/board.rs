@@ -2,9 +2,9 @@
 
 use crate::compare::program::{Feed, Program};
 use crate::probe::codec;
-use crate::probe::frame::{Frame, Step};
-use crate::probe::reply::{result, Reply, Stepped, Trimmed};
-use crate::{Answer, Lines, Outcome, Tapes, Unit};
+use crate::probe::frame::{Asked, Frame, Step};
+use crate::probe::reply::{result, Came, Reply, Stepped, Trimmed};
+use crate::{Answer, Lines, Outcome, Tapes, Unit, Went};
 
 /// The calls of a board; left as they are here, they are the model's.
 pub trait Board {
@@ -24,6 +24,14 @@ pub trait Board {
         step_with(record, |unit| unit.step(tapes, event))
     }
 
+    fn give(&mut self, record: &mut Vec<u8>, tapes: &mut Tapes, bytes: &[u8]) -> Went {
+        many_with(record, |unit| unit.give_many(tapes, bytes))
+    }
+
+    fn take(&mut self, record: &mut Vec<u8>, tapes: &mut Tapes, bytes: &mut [u8]) -> Went {
+        many_with(record, |unit| unit.take_many(tapes, bytes))
+    }
+
     fn lines(&mut self, record: &[u8]) -> (u8, Lines) {
         match codec::decode(record) {
             Ok(unit) if !unit.impossible() => (0, unit.lines()),
@@ -39,14 +47,20 @@ impl Board for Model {}
 
 /// A step of the record that the bytes are; bytes that are none are answered 5 and left.
 pub fn step_with(record: &mut Vec<u8>, step: impl FnOnce(&mut Unit) -> Outcome) -> Outcome {
-    match codec::decode(record) {
-        Ok(mut unit) => {
-            let outcome = step(&mut unit);
-            *record = codec::encode(&unit);
-            outcome
-        }
-        Err(_) => Outcome { answer: Answer::ImpossibleRecord, byte: None, lines: Lines::default() },
-    }
+    on_record(record, step).unwrap_or(Outcome::IMPOSSIBLE)
+}
+
+/// The same with many bytes.
+pub fn many_with(record: &mut Vec<u8>, call: impl FnOnce(&mut Unit) -> Went) -> Went {
+    on_record(record, call).unwrap_or(Went::IMPOSSIBLE)
+}
+
+/// Changes the record that the bytes are, if they are one.
+fn on_record<T>(record: &mut Vec<u8>, change: impl FnOnce(&mut Unit) -> T) -> Option<T> {
+    let mut unit = codec::decode(record).ok()?;
+    let came = change(&mut unit);
+    *record = codec::encode(&unit);
+    Some(came)
 }
 
 /// A board with the buffers that it is lent.
@@ -76,13 +90,31 @@ impl Bench {
             lent.fill(tape);
         }
         let mut record = step.record.clone();
-        let outcome = self.board.step(&mut record, &mut self.tapes, &step.event);
+        let (outcome, came) = self.call(&mut record, &step.asked);
         let (returned, lines) = self.board.lines(&record);
         Stepped {
             result: result(&outcome),
             lines: [returned, lines.ready as u8, lines.exception as u8, lines.direction as u8],
             record,
             tapes: std::array::from_fn(|at| Trimmed::of(&self.tapes[at])),
+            came,
+        }
+    }
+
+    /// What is asked, on the tapes as they are filled.
+    fn call(&mut self, record: &mut Vec<u8>, asked: &Asked) -> (Outcome, Came) {
+        let Bench { board, tapes } = self;
+        match asked {
+            Asked::Event(event) => (board.step(record, tapes, event), Came::Event),
+            Asked::Give(bytes) => {
+                let went = board.give(record, tapes, bytes);
+                (went.last, Came::Give(went.count as u64))
+            }
+            Asked::Take(before) => {
+                let mut buffer = before.clone();
+                let went = board.take(record, tapes, &mut buffer);
+                (went.last, Came::Take(went.count as u64, buffer))
+            }
         }
     }
 

@@ -10,15 +10,26 @@ pub struct Lent {
     pub given: Vec<u8>,
 }
 
-/// One event on a record and four tapes.
+/// What is done with a record and four tapes.
+#[derive(Clone, PartialEq, Eq, Debug)]
+pub enum Asked {
+    /// One event.
+    Event(Vec<u8>),
+    /// Bytes given in one call.
+    Give(Vec<u8>),
+    /// A buffer to take bytes into in one call, as it is before.
+    Take(Vec<u8>),
+}
+
+/// A call with all that it is lent.
 #[derive(Clone, PartialEq, Eq, Debug)]
 pub struct Step {
     pub record: Vec<u8>,
     pub tapes: [Lent; 4],
-    pub event: Vec<u8>,
+    pub asked: Asked,
 }
 
-/// What is asked.
+/// What a board is asked for.
 #[derive(Clone, PartialEq, Eq, Debug)]
 pub enum Frame {
     Step(Step),
@@ -30,13 +41,15 @@ pub enum Frame {
 
 /// The kind bytes of frames, and of the replies to them.
 pub const STEP: u8 = b's';
+pub const GIVE: u8 = b'g';
+pub const TAKE: u8 = b't';
 pub const SIZE: u8 = b'z';
 pub const FRESH: u8 = b'f';
 
 /// The longest tape that a frame may lend; the board must refuse those above 16,777,216.
 pub const LONGEST_LENT: u32 = 16_777_216 + 2048;
-/// The longest record buffer that a frame may hand over.
-pub const LONGEST_RECORD: usize = 65_536;
+/// The longest record buffer that a frame may hand over, and the most bytes to give or to take.
+pub const LONGEST_BUFFER: usize = 65_536;
 
 impl Lent {
     /// A tape of zeros.
@@ -57,6 +70,59 @@ impl Lent {
     }
 }
 
+impl Asked {
+    /// The bytes of a call with many.
+    pub fn many(&mut self) -> Option<&mut Vec<u8>> {
+        match self {
+            Asked::Event(_) => None,
+            Asked::Give(bytes) | Asked::Take(bytes) => Some(bytes),
+        }
+    }
+
+    /// The kind byte of a frame that asks for this, and of the reply to it.
+    pub fn kind(&self) -> u8 {
+        match self {
+            Asked::Event(_) => STEP,
+            Asked::Give(_) => GIVE,
+            Asked::Take(_) => TAKE,
+        }
+    }
+}
+
+impl Step {
+    fn write(&self, bytes: &mut Vec<u8>) {
+        bytes.push(self.asked.kind());
+        put(bytes, &self.record);
+        for tape in &self.tapes {
+            bytes.extend(tape.length.to_le_bytes());
+            bytes.extend(tape.at.to_le_bytes());
+            put(bytes, &tape.given);
+        }
+        match &self.asked {
+            Asked::Event(event) => {
+                bytes.push(event.len() as u8);
+                bytes.extend(event);
+            }
+            Asked::Give(buffer) | Asked::Take(buffer) => put(bytes, buffer),
+        }
+    }
+
+    /// The rest of a frame of this kind.
+    fn read(kind: u8, bytes: &mut &[u8]) -> Result<Step, String> {
+        let record = buffer(bytes, "a record")?;
+        let tapes = [lent(bytes)?, lent(bytes)?, lent(bytes)?, lent(bytes)?];
+        let asked = match kind {
+            GIVE => Asked::Give(buffer(bytes, "a call")?),
+            TAKE => Asked::Take(buffer(bytes, "a call")?),
+            _ => {
+                let length = take(bytes, 1)?[0] as usize;
+                Asked::Event(take(bytes, length)?.to_vec())
+            }
+        };
+        Ok(Step { record, tapes, asked })
+    }
+}
+
 impl Frame {
     pub fn write(&self, bytes: &mut Vec<u8>) {
         match self {
@@ -65,17 +131,7 @@ impl Frame {
                 bytes.push(FRESH);
                 put(bytes, record);
             }
-            Frame::Step(step) => {
-                bytes.push(STEP);
-                put(bytes, &step.record);
-                for tape in &step.tapes {
-                    bytes.extend(tape.length.to_le_bytes());
-                    bytes.extend(tape.at.to_le_bytes());
-                    put(bytes, &tape.given);
-                }
-                bytes.push(step.event.len() as u8);
-                bytes.extend(&step.event);
-            }
+            Frame::Step(step) => step.write(bytes),
         }
     }
 
@@ -87,13 +143,8 @@ impl Frame {
         *bytes = rest;
         Ok(Some(match kind {
             SIZE => Frame::Size,
-            FRESH => Frame::Fresh(record(bytes)?),
-            STEP => {
-                let record = record(bytes)?;
-                let tapes = [lent(bytes)?, lent(bytes)?, lent(bytes)?, lent(bytes)?];
-                let length = take(bytes, 1)?[0] as usize;
-                Frame::Step(Step { record, tapes, event: take(bytes, length)?.to_vec() })
-            }
+            FRESH => Frame::Fresh(buffer(bytes, "a record")?),
+            STEP | GIVE | TAKE => Frame::Step(Step::read(kind, bytes)?),
             _ => return Err(format!("no frame begins with {kind:02X}")),
         }))
     }
@@ -118,10 +169,11 @@ pub fn number(bytes: &mut &[u8]) -> Result<u32, String> {
     Ok(u32::from_le_bytes(taken.try_into().expect("four bytes were taken")))
 }
 
-fn record(bytes: &mut &[u8]) -> Result<Vec<u8>, String> {
+/// A buffer after its length, which is bounded.
+fn buffer(bytes: &mut &[u8], what: &str) -> Result<Vec<u8>, String> {
     let length = number(bytes)? as usize;
-    if length > LONGEST_RECORD {
-        return Err(format!("a record of {length} bytes"));
+    if length > LONGEST_BUFFER {
+        return Err(format!("{what} of {length} bytes"));
     }
     Ok(take(bytes, length)?.to_vec())
 }

@@ -16,8 +16,11 @@ const AT_END: &str = "UDE, a head at the end";
 const NO_DATA: &str = "UDE, end of data";
 const A_MARK: &str = "UDE, a mark";
 
-/// What events can do, and how each can end.
-pub const HAPPENINGS: [(&str, &[&str]); 44] = [
+/// What can happen, and how each can end.
+pub type Happenings = &'static [(&'static str, &'static [&'static str])];
+
+/// By all events but bytes.
+pub const ORDERS: Happenings = &[
     ("SELECT", &["taken", "ILL"]),
     ("BOT", &["taken", "ILL", "CNI"]),
     ("ERASE", &["taken", "ILL", "CNI", "EXCEPTION alone"]),
@@ -30,7 +33,28 @@ pub const HAPPENINGS: [(&str, &[&str]); 44] = [
     ("READ FILE MARK, blocks passed", &["FIL", "NDT", BNL, LONG]),
     ("READ STATUS", &["taken"]),
     ("unknown code", &["ILL"]),
+    ("ONLINE raised", &["taken"]),
+    ("low level repeated", &["taken"]),
+    ("ONLINE dropped, a mark recorded", &["taken"]),
+    ("ONLINE dropped", &["taken", "EOM"]),
+    ("RESET", &["POR"]),
+    ("cartridge in", &["taken"]),
+    ("cartridge out", &["CNI"]),
+    ("error", &["taken"]),
+    ("underrun", &["taken"]),
+    ("READ STATUS in a late WRITE", &["taken"]),
+    ("WRITE FILE MARK in a late WRITE", &["taken", "ILL", "EOM"]),
+    ("any other order in a late WRITE", &["ILL"]),
+    ("ONLINE dropped in a late WRITE, a mark recorded", &["taken"]),
+    ("ONLINE dropped in a late WRITE", &["taken", "EOM"]),
+    ("RESET in a late WRITE", &["POR"]),
+    ("cartridge out in a late WRITE", &["CNI"]),
+];
+
+/// By a byte given or taken.
+pub const BYTES: Happenings = &[
     ("byte of a block given", &["taken"]),
+    ("byte of a late block given", &["taken"]),
     ("block recorded", &["taken", "EOM"]),
     ("block not recorded", &["EOM"]),
     ("first late block recorded", &["taken"]),
@@ -43,35 +67,23 @@ pub const HAPPENINGS: [(&str, &[&str]); 44] = [
     ("block not recorded, room for a late one", &["EOM"]),
     ("octet", &["taken"]),
     ("first byte of a block", &["taken", "FIL", "NDT", BNL, LONG, ABOVE]),
-    ("byte inside a block", &["taken", BNL, LONG, ABOVE, AT_END, NO_DATA, A_MARK]),
+    ("byte inside a block", &["taken"]),
     ("byte 512 of a block", &["taken", "FIL", "NDT", BNL, LONG]),
-    ("ONLINE raised", &["taken"]),
-    ("low level repeated", &["taken"]),
-    ("ONLINE dropped, a mark recorded", &["taken"]),
-    ("ONLINE dropped", &["taken", "EOM"]),
-    ("RESET", &["POR"]),
-    ("cartridge in", &["taken"]),
-    ("cartridge out", &["CNI"]),
-    ("error", &["taken"]),
-    ("underrun", &["taken"]),
-    ("byte of a late block given", &["taken"]),
-    ("READ STATUS in a late WRITE", &["taken"]),
-    ("WRITE FILE MARK in a late WRITE", &["taken", "ILL", "EOM"]),
-    ("any other order in a late WRITE", &["ILL"]),
-    ("ONLINE dropped in a late WRITE, a mark recorded", &["taken"]),
-    ("ONLINE dropped in a late WRITE", &["taken", "EOM"]),
-    ("RESET in a late WRITE", &["POR"]),
-    ("cartridge out in a late WRITE", &["CNI"]),
 ];
 
-/// What an event that was taken did, and how it ended.
+/// By a byte taken inside a block that is none any more.
+pub const SPOILT: Happenings =
+    &[("byte inside a block", &[BNL, LONG, ABOVE, AT_END, NO_DATA, A_MARK])];
+
+/// What an event that was taken did, and how it ended; it is the only one of its frame, or the
+/// last of many.
 pub fn happened(
     before: &Unit,
     after: &Unit,
+    event: Event,
     step: &Step,
     stepped: &Stepped,
 ) -> (&'static str, &'static str) {
-    let event = Event::of(&step.event).expect("only events are taken");
     let at = match event {
         Event::CartridgeOut(at) => at,
         _ => before.selected as usize,

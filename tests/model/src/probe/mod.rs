@@ -1,4 +1,4 @@
-//! The comparison of a board, call by call, on any record, any tapes and any event.
+//! The comparison of a board, call by call, on any record, any tapes, and any event or bytes.
 
 pub mod board;
 pub mod codec;
@@ -7,6 +7,7 @@ pub mod frame;
 pub mod generate;
 mod happened;
 mod late;
+mod many;
 mod misread;
 pub mod mutants;
 pub mod reply;

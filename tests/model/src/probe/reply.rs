@@ -1,6 +1,6 @@
 //! Replies: what came out of a board, as bytes. `tests/probe/README.md` has the layout.
 
-use crate::probe::frame::{number, put, take, FRESH, SIZE, STEP};
+use crate::probe::frame::{number, put, take, FRESH, GIVE, SIZE, STEP, TAKE};
 use crate::Outcome;
 
 /// A tape without the zeros at both ends.
@@ -10,7 +10,18 @@ pub struct Trimmed {
     pub bytes: Vec<u8>,
 }
 
-/// What one step left.
+/// What a call returned, and what it wrote beside its result.
+#[derive(Clone, PartialEq, Eq, Debug)]
+pub enum Came {
+    /// An event returns nothing.
+    Event,
+    /// How many bytes were given.
+    Give(u64),
+    /// How many bytes were taken, and the whole buffer after.
+    Take(u64, Vec<u8>),
+}
+
+/// What a call left.
 #[derive(Clone, PartialEq, Eq, Debug)]
 pub struct Stepped {
     /// Answer, byte given, byte, READY, EXCEPTION, DIRECTION.
@@ -19,6 +30,7 @@ pub struct Stepped {
     pub lines: [u8; 4],
     pub record: Vec<u8>,
     pub tapes: [Trimmed; 4],
+    pub came: Came,
 }
 
 /// What came out.
@@ -67,6 +79,46 @@ impl Trimmed {
     }
 }
 
+impl Stepped {
+    fn write(&self, into: &mut Vec<u8>) {
+        into.push(match self.came {
+            Came::Event => STEP,
+            Came::Give(_) => GIVE,
+            Came::Take(..) => TAKE,
+        });
+        into.extend(self.result);
+        into.extend(self.lines);
+        put(into, &self.record);
+        for tape in &self.tapes {
+            into.extend(tape.first.to_le_bytes());
+            put(into, &tape.bytes);
+        }
+        match &self.came {
+            Came::Event => {}
+            Came::Give(count) => into.extend(count.to_le_bytes()),
+            Came::Take(count, buffer) => {
+                into.extend(count.to_le_bytes());
+                put(into, buffer);
+            }
+        }
+    }
+
+    /// The rest of a reply of this kind.
+    fn read(kind: u8, from: &mut &[u8]) -> Result<Stepped, String> {
+        Ok(Stepped {
+            result: array(from)?,
+            lines: array(from)?,
+            record: counted(from)?,
+            tapes: [trimmed(from)?, trimmed(from)?, trimmed(from)?, trimmed(from)?],
+            came: match kind {
+                GIVE => Came::Give(u64::from_le_bytes(array(from)?)),
+                TAKE => Came::Take(u64::from_le_bytes(array(from)?), counted(from)?),
+                _ => Came::Event,
+            },
+        })
+    }
+}
+
 impl Reply {
     /// The reply after its length.
     pub fn write(&self, into: &mut Vec<u8>) {
@@ -81,16 +133,7 @@ impl Reply {
                 into.extend([FRESH, *returned]);
                 put(into, record);
             }
-            Reply::Step(stepped) => {
-                into.push(STEP);
-                into.extend(stepped.result);
-                into.extend(stepped.lines);
-                put(into, &stepped.record);
-                for tape in &stepped.tapes {
-                    into.extend(tape.first.to_le_bytes());
-                    put(into, &tape.bytes);
-                }
-            }
+            Reply::Step(stepped) => stepped.write(into),
         }
         let length = (into.len() - start - 4) as u32;
         into[start..start + 4].copy_from_slice(&length.to_le_bytes());
@@ -102,12 +145,7 @@ impl Reply {
         let reply = match take(from, 1)?[0] {
             SIZE => Reply::Size(u64::from_le_bytes(array(from)?)),
             FRESH => Reply::Fresh(take(from, 1)?[0], counted(from)?),
-            STEP => Reply::Step(Stepped {
-                result: array(from)?,
-                lines: array(from)?,
-                record: counted(from)?,
-                tapes: [trimmed(from)?, trimmed(from)?, trimmed(from)?, trimmed(from)?],
-            }),
+            kind @ (STEP | GIVE | TAKE) => Reply::Step(Stepped::read(kind, from)?),
             kind => return Err(format!("no reply begins with {kind:02X}")),
         };
         match bytes.len() {

@@ -2,11 +2,12 @@
 
 use crate::listing;
 use crate::probe::codec;
-use crate::probe::frame::{Frame, Lent, Step};
-use crate::probe::reply::{Reply, Stepped, Trimmed};
+use crate::probe::frame::{Asked, Frame, Lent, Step};
+use crate::probe::reply::{Came, Reply, Stepped, Trimmed};
 use crate::probe::runner::Difference;
 use crate::state::Unit;
 use std::fmt::Write;
+use std::ops::Range;
 
 /// A difference: the frame, then what each side made of it, line by line.
 pub fn difference(difference: &Difference) -> String {
@@ -52,9 +53,15 @@ fn write_step(text: &mut String, step: &Step) {
     for (at, Lent { length, at: from, given }) in step.tapes.iter().enumerate() {
         let _ = writeln!(text, "  tape {at}: {length} bytes, from {from}: {}", hex(given));
     }
-    let name = listing::to_text(&step.event);
-    let name = name.lines().next().unwrap_or("nothing");
-    let _ = writeln!(text, "  event: {} ({name})", hex(&step.event));
+    let _ = match &step.asked {
+        Asked::Event(event) => {
+            let name = listing::to_text(event);
+            let name = name.lines().next().unwrap_or("nothing");
+            writeln!(text, "  event: {} ({name})", hex(event))
+        }
+        Asked::Give(bytes) => writeln!(text, "  give {} bytes: {}", bytes.len(), hex(bytes)),
+        Asked::Take(buffer) => writeln!(text, "  take into {}: {}", buffer.len(), hex(buffer)),
+    };
 }
 
 fn write_unit(text: &mut String, unit: &Unit) {
@@ -80,6 +87,7 @@ fn hex(bytes: &[u8]) -> String {
 
 /// All that two steps differ in.
 fn steps(text: &mut String, program: &Stepped, model: &Stepped) {
+    came(text, &program.came, &model.came);
     let names = ["answer", "byte given", "byte", "READY", "EXCEPTION", "DIRECTION"];
     for (at, name) in names.iter().enumerate() {
         byte(text, name, program.result[at], model.result[at]);
@@ -88,10 +96,7 @@ fn steps(text: &mut String, program: &Stepped, model: &Stepped) {
     for (at, name) in names.iter().enumerate() {
         byte(text, name, program.lines[at], model.lines[at]);
     }
-    if program.record.len() != model.record.len() {
-        let lengths = [&program.record, &model.record].map(|record| record.len().to_string());
-        line(text, "record length", &lengths[0], &lengths[1]);
-    }
+    lengths(text, "record", &program.record, &model.record);
     for (at, (one, other)) in program.record.iter().zip(&model.record).enumerate() {
         byte(text, &format!("record byte {at}, {}", codec::field(at)), *one, *other);
     }
@@ -100,21 +105,47 @@ fn steps(text: &mut String, program: &Stepped, model: &Stepped) {
     }
 }
 
-/// The places where two tapes differ; the first of them byte by byte.
+/// How many bytes went over, and the buffers that they were taken into.
+fn came(text: &mut String, program: &Came, model: &Came) {
+    let [one, other] = [program, model].map(|came| match came {
+        Came::Event => ("of an event".into(), &[][..]),
+        Came::Give(count) => (format!("{count} given"), &[][..]),
+        Came::Take(count, buffer) => (format!("{count} taken"), &buffer[..]),
+    });
+    if one.0 != other.0 {
+        line(text, "bytes", &one.0, &other.0);
+    }
+    lengths(text, "buffer", one.1, other.1);
+    let both = 0..one.1.len().min(other.1.len());
+    places(text, "buffer", both, |place| (one.1[place], other.1[place]));
+}
+
+fn lengths(text: &mut String, what: &str, program: &[u8], model: &[u8]) {
+    if program.len() != model.len() {
+        let [one, other] = [program, model].map(|bytes| bytes.len().to_string());
+        line(text, &format!("{what} length"), &one, &other);
+    }
+}
+
+/// The places where two tapes differ.
 fn tapes(text: &mut String, at: usize, program: &Trimmed, model: &Trimmed) {
     if program == model {
         return;
     }
     let end = |tape: &Trimmed| tape.first as usize + tape.bytes.len();
-    let places = program.first.min(model.first) as usize..end(program).max(end(model));
-    let differ = places.filter(|&place| program.at(place) != model.at(place));
-    let places: Vec<usize> = differ.collect();
-    for &place in places.iter().take(4) {
-        let what = format!("tape {at} at {place}");
-        byte(text, &what, program.at(place), model.at(place));
+    let both = program.first.min(model.first) as usize..end(program).max(end(model));
+    places(text, &format!("tape {at}"), both, |place| (program.at(place), model.at(place)));
+}
+
+/// The places where two rows of bytes differ; the first of them byte by byte.
+fn places(text: &mut String, what: &str, all: Range<usize>, at: impl Fn(usize) -> (u8, u8)) {
+    let differ = all.map(|place| (place, at(place))).filter(|(_, (one, other))| one != other);
+    let places: Vec<_> = differ.collect();
+    for (place, (program, model)) in places.iter().take(4) {
+        byte(text, &format!("{what} at {place}"), *program, *model);
     }
     if places.len() > 4 {
-        let _ = writeln!(text, "    tape {at}: {} bytes differ in all", places.len());
+        let _ = writeln!(text, "    {what}: {} bytes differ in all", places.len());
     }
 }
 

@@ -22,6 +22,7 @@ pub fn shrunk(program: &dyn Program, frame: &Frame) -> Option<Difference> {
             }
         }
         helped |= shorten(program, &mut best);
+        helped |= fewer(program, &mut best);
         if !helped {
             break;
         }
@@ -62,6 +63,11 @@ fn plainer(frame: &Frame) -> Vec<Frame> {
         plain.tapes[at] = Default::default();
         steps.push(plain);
     }
+    let mut alike = step.clone();
+    if let Some(bytes) = alike.asked.many() {
+        bytes.fill(0x5A);
+    }
+    steps.push(alike);
     steps.retain(|plain| plain != step);
     steps.into_iter().map(Frame::Step).collect()
 }
@@ -117,6 +123,27 @@ fn shorten(program: &dyn Program, best: &mut Difference) -> bool {
                 Some(found) => (*best, helped) = (found, true),
                 None => break,
             }
+        }
+    }
+    helped
+}
+
+/// Leaves off the last bytes of a call with many, at first half of them, in the end one.
+fn fewer(program: &dyn Program, best: &mut Difference) -> bool {
+    let mut helped = false;
+    let mut off = usize::MAX;
+    while off > 0 {
+        let Frame::Step(mut step) = best.frame.clone() else {
+            return helped;
+        };
+        let Some(bytes) = step.asked.many().filter(|bytes| !bytes.is_empty()) else {
+            return helped;
+        };
+        off = off.min(bytes.len().div_ceil(2));
+        bytes.truncate(bytes.len() - off);
+        match difference(program, &Frame::Step(step)) {
+            Some(found) => (*best, helped) = (found, true),
+            None => off /= 2,
         }
     }
     helped

@@ -1,6 +1,5 @@
 -- A record is served; where there is none all is as found.
-use Rattle.board.proofs.Held.{record-long}
-use Rattle.board.specs.Serve.{of-record, of-none}
+use Rattle.board.specs.Serve.{Serves}
 use mathlib.Core.Path.{refl}
 use Rattle.basis.specs.Tests.{told}
 use borrow.Author.Needs.{needs}
@@ -13,9 +12,7 @@ is-record-requires c κs = search needs
 serve-requires : tie.Need-serve-requires
 serve-requires c κs =
     let taken = c .before .before .before .before .before in
-    let asked = taken .before in
-    record-long (asked .before .before .before .before .before .before .before .before .args .buffer .now)
-    (told (asked .is-record .ensures) (taken .if1 .taken))
+    told (taken .before .is-record .ensures) (taken .if1 .taken)
 
 no-record-requires : tie.Need-no-record-requires
 no-record-requires c κs = search needs
@@ -39,7 +36,7 @@ returns : tie.Need-returns
 returns c =
     let served = c .before .before .before .before .before .before .before .before .before .before in
     let taken = served .before .before .before .before .before .before in
-    of-record (told (taken .before .is-record .ensures) (taken .if1 .taken)) (served .serve .ensures)
+    Serves.of-record (told (taken .before .is-record .ensures) (taken .if1 .taken)) (served .serve .ensures)
 
 same-length-6 : tie.Need-same-length-6
 same-length-6 c = search needs
@@ -48,7 +45,7 @@ returns-2 : tie.Need-returns-2
 returns-2 c =
     let left = c .before in
     let none = told (left .before .is-record .ensures) (left .if1 .left) in
-    of-none none (record { result = c .no-record .ensures; left = refl; tapes = refl })
+    Serves.of-none none (record { result = c .no-record .ensures; left = refl; tapes = refl })
 
 pub glenoulty-step-spec : {M : Type 1} → statement M
 glenoulty-step-spec =

@@ -1,5 +1,5 @@
 -- Only a record is read and asked whether it is possible.
-use Rattle.board.proofs.Held.{record-long}
+use Rattle.layout.proofs.Form.{record-long}
 use Rattle.board.specs.Serve.{holds}
 use Rattle.basis.specs.Tests.{told}
 use borrow.Author.Needs.{needs}

@@ -51,7 +51,7 @@ returns-3 : tie.Need-returns-3
 returns-3 c = rw (c .before .before .enum-told2 .given .1) (c .take .ensures)
 
 returns-4 : tie.Need-returns-4
-returns-4 c = rw (c .before .enum-told3 .given .1) (c .raise-online .ensures (c .before .before .before .before .args .tape .now))
+returns-4 c = rw (c .before .enum-told3 .given .1) (c .raise-online .ensures (c .before .before .before .before .before .args .tape .now))
 
 same-length-4 : tie.Need-same-length-4
 same-length-4 c = search needs

@@ -26,8 +26,16 @@ enum-told-4 c = search needs
 returns : tie.Need-returns
 returns c = search needs
 
+same-length : tie.Need-same-length
+same-length c = search needs
+
 returns-2 : tie.Need-returns-2
-returns-2 c = rw (c .put .ensures, c .before .given-before .ensures, c .before .before .before .before .a .given .1)
+returns-2 c =
+    rw (
+      c .before .before .put .ensures,
+      c .before .before .before .given-before .ensures,
+      c .before .before .before .before .before .before .a .given .1,
+    )
 
 returns-3 : tie.Need-returns-3
 returns-3 c = search needs
@@ -50,6 +58,7 @@ stage-spec =
     enum-told-3
     enum-told-4
     returns
+    same-length
     returns-2
     returns-3
     returns-4

@@ -37,7 +37,7 @@ same-length c = search needs
 returns : tie.Need-returns
 returns c =
     let c9 = c .before .before .before .before .before .before .before .before .before in
-    let a = c9 .before .before .before .before .args in
+    let a = c9 .before .before .before .before .before .args in
     let w = rw (c .before .before .before .before .before .made .given .1, c9 .before .spare-of .ensures) at (c9 .record-block .ensures) in
     rw (c .after-block .ensures, c .before .before .one-less .ensures, c .before .before .before .made2 .ensures)
     (block-stored (a .staging .now) (a .port) (a .drive) (a .tape .now) _ _ w)
@@ -48,7 +48,7 @@ same-length-2 c = search needs
 returns-2 : tie.Need-returns-2
 returns-2 c =
     let c6 = c .before .before .before .before .before .before in
-    let a = c6 .before .before .before .before .args in
+    let a = c6 .before .before .before .before .before .args in
     let w = rw (c .before .before .enum-told .given .1, c6 .before .spare-of .ensures) at (c6 .record-block .ensures) in
     rw (c .leaves .ensures, c .before .stop .ensures) (block-refused (a .staging .now) (a .port) (a .drive) (a .tape .now) _ w)
 

@@ -8,15 +8,15 @@ use Rattle.tape.proofs.Parts.{roomy, full, made-with-room, none-without
 use Rattle.tape.proofs.record.record_block.Statement.{statement}
 use Rattle.tape.proofs.record.record_block.Tie as tie
 
-room : (c : tie.Then2) → c .before .before .before .before .args .head + (513 + c .before .before .before .before .args .spare) ≤ length
-    (c .before .before .before .before .args .tape .now)
+room : (c : tie.Then2) → c .before .before .before .before .before .args .head + (513 + c .before .before .before .before .before .args .spare) ≤ length
+    (c .before .before .before .before .before .args .tape .now)
 room c =
-    let a = c .before .before .before .before .args in
+    let a = c .before .before .before .before .before .args in
     omega (arith, roomy (a .head) 513 (length (a .tape .now) - a .spare) (c .before .has-room .ensures) (c .if2 .taken))
 
 returns : tie.Need-returns
 returns c =
-    let a = c .before .before .args in
+    let a = c .before .before .before .args in
     none-without-room (a .tape .now) (blockRecord (a .body .now)) (a .head) 513 (a .spare) (omega arith)
 
 has-room-requires : tie.Need-has-room-requires
@@ -32,23 +32,23 @@ part-put-block-end : tie.Need-part-put-block-end
 part-put-block-end c = search needs
 
 put-block-requires : tie.Need-put-block-requires
-put-block-requires c κs = let r = room (c .before .before) in (simp (length-take, length-drop) (omega arith), search needs)
+put-block-requires c κs = let r = room (c .before) in (simp (length-take, length-drop) (omega arith), search needs)
 
 add-t11 : tie.Need-add-t11
-add-t11 c = omega (arith, room (c .before .before .before .before .before))
+add-t11 c = omega (arith, room (c .before .before .before .before))
 
 same-length : tie.Need-same-length
 same-length c = search needs
 
 returns-2 : tie.Need-returns-2
 returns-2 c =
-    let p = c .before .before .before .before .before in
-    let a = p .before .before .before .before .args in
+    let p = c .before .before .before .before in
+    let a = p .before .before .before .before .before .args in
     made-with-room (a .tape .now) _ (blockRecord (a .body .now)) (a .head) 513 (a .spare) (room p) (c .before .before .put-block .ensures)
 
 returns-3 : tie.Need-returns-3
 returns-3 c =
-    let a = c .before .before .before .before .args in
+    let a = c .before .before .before .before .before .args in
     let l = full (a .head) 513 (length (a .tape .now) - a .spare) (c .before .has-room .ensures) (c .if2 .left) in
     none-without-room (a .tape .now) (blockRecord (a .body .now)) (a .head) 513 (a .spare) (omega arith)
 

@@ -6,8 +6,8 @@ use native.Mathlib.Omega.{arith}
 use Rattle.trace.proofs.run.answer_event.Statement.{statement}
 use Rattle.trace.proofs.run.answer_event.Tie as tie
 
-step-core-requires : tie.Need-step-core-requires
-step-core-requires c κs = search needs
+step-lent-requires : tie.Need-step-lent-requires
+step-lent-requires c κs = search needs
 
 add-put-line : tie.Need-add-put-line
 add-put-line c =
@@ -48,13 +48,13 @@ returns c =
     let c27 = c15 .before .before .before .before .before .before .before .before .before .before .before .before in
     let a = c27 .args in
     rw (c3 .put-line .ensures .1, c3 .put-line .ensures .0, c .stops .ensures)
-    (turn-made _ _ _ _ _ (c15 .step-core .ensures) (a .count + 1) (a .full) (a .out .now))
+    (turn-made _ _ _ _ _ (c15 .step-lent .ensures) (a .count + 1) (a .full) (a .out .now))
 
 pub answer-event-spec : {M : Type 1} → statement M
 answer-event-spec =
     tie.close
     (tie.spec
-    step-core-requires
+    step-lent-requires
     add-put-line
     put-line-requires
     stops-requires

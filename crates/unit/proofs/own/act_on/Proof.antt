@@ -35,7 +35,7 @@ returns c =
     let c3 = c .before .before .before in
     let c6 = c3 .before .before .before in
     let c10 = c6 .before .before .before .before in
-    let a = c10 .args in
+    let a = c10 .before .args in
     let answer = rw (c3 .before .unless .ensures, c3 .before .before .in-step .ensures, c6 .reads .ensures, c6 .before .writes .ensures) at
     (c3 .refusal-by .ensures) in
     ap (λ (x : Turn). ownTurn x (a .staging .now) (a .tape .now)) (c .refuse .ensures)
@@ -55,25 +55,30 @@ done-requires : tie.Need-done-requires
 done-requires c κs = search needs
 
 same-length : tie.Need-same-length
-same-length c = search needs
+same-length c =
+    let c5 = c .before .before .before .before .before in
+    c5 .before .before .before .before .before .before .stage .kept .0
+
+same-length-2 : tie.Need-same-length-2
+same-length-2 c = search needs
 
 returns-2 : tie.Need-returns-2
 returns-2 c =
     let c6 = c .before .before .before .before .before .before in
-    let c9 = c6 .before .before .before in
-    let c12 = c9 .before .before .before in
-    let c15 = c12 .before .before .before in
-    let c20 = c15 .before .before .before .before .before in
-    let a = c20 .args in
+    let c11 = c6 .before .before .before .before .before in
+    let c14 = c11 .before .before .before in
+    let c17 = c14 .before .before .before in
+    let c23 = c17 .before .before .before .before .before .before in
+    let a = c23 .args in
     let answer = rw (
-      c12 .before .before .unless .ensures,
-      c15 .in-step .ensures,
-      c15 .before .reads .ensures,
-      c15 .before .before .writes .ensures,
-    ) at (c12 .before .refusal-by .ensures) in
+      c14 .before .before .unless .ensures,
+      c17 .in-step .ensures,
+      c17 .before .reads .ensures,
+      c17 .before .before .writes .ensures,
+    ) at (c14 .before .refusal-by .ensures) in
     own-lands (a .core) (a .possible) (a .short) (a .drive) (a .staging .now) (a .tape .now) (a .a) _ answer _ (c6 .act .result) _ _ _
-    (c .done .ensures) (c .before .put .ensures) (c6 .act .ensures) (c9 .stage .ensures)
-    (told (c12 .refuses .ensures) (c9 .before .before .if1 .left))
+    (c .done .ensures) (c .before .put .ensures) (c6 .act .ensures) (c11 .stage .ensures)
+    (told (c14 .refuses .ensures) (c11 .before .before .if1 .left))
 
 pub act-on-spec : {M : Type 1} → statement M
 act-on-spec =
@@ -92,4 +97,5 @@ act-on-spec =
     put-requires
     done-requires
     same-length
+    same-length-2
     returns-2)

@@ -5,7 +5,7 @@ use super::possible::at_work;
 use super::{events, Index};
 use crate::compare::random::Random;
 use crate::probe::codec;
-use crate::probe::frame::{Frame, Step};
+use crate::probe::frame::{Asked, Frame, Step};
 use crate::state::LONGEST;
 use std::sync::OnceLock;
 
@@ -112,7 +112,7 @@ pub fn skeleton(random: &mut Random, _: &mut Index, frames: &mut Vec<Frame>) {
         let bound = random.pick(&[3000, 3000, 3000, LONGEST + 2]);
         lower(random, &mut record[drive..drive + 8], bound);
     }
-    frames.push(Frame::Step(Step { record, tapes, event }));
+    frames.push(Frame::Step(Step { record, tapes, asked: Asked::Event(event) }));
 }
 
 /// Most often brings a number below a bound; else it stays any number.

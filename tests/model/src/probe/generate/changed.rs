@@ -7,7 +7,7 @@ use crate::commands::*;
 use crate::compare::random::Random;
 use crate::probe::board::{Bench, Model};
 use crate::probe::codec;
-use crate::probe::frame::{Frame, Lent};
+use crate::probe::frame::{Asked, Frame, Lent};
 use crate::probe::reply::{Stepped, Trimmed};
 use crate::state::{Mode, Phase};
 
@@ -21,25 +21,24 @@ pub fn runs(random: &mut Random, _: &mut Index, frames: &mut Vec<Frame>) {
     let mut setting = begin(random);
     for _ in 0..EVENTS {
         let event = likely(random, &setting);
-        frames.push(follow(&mut bench, &mut setting, &event));
+        frames.push(follow(&mut bench, &mut setting, Asked::Event(event)));
         change(random, &mut setting);
     }
 }
 
-/// The frame of an event, after which record and tapes are as the model leaves them.
-pub fn follow(bench: &mut Bench, setting: &mut Setting, event: &[u8]) -> Frame {
-    let frame = setting.clone().with(event);
-    let Frame::Step(step) = &frame else { unreachable!("a setting is a step") };
-    let Stepped { record, tapes, .. } = bench.step(step);
+/// The frame of a call, after which record and tapes are as the model leaves them.
+pub fn follow(bench: &mut Bench, setting: &mut Setting, asked: Asked) -> Frame {
+    let step = setting.clone().step(asked);
+    let Stepped { record, tapes, .. } = bench.step(&step);
     setting.unit = codec::decode(&record).expect("a step leaves a record");
     for (lent, tape) in setting.tapes.iter_mut().zip(tapes) {
         *lent = back(lent.length, tape);
     }
-    frame
+    Frame::Step(step)
 }
 
 /// A drive at work, mostly just before the end of a block.
-fn begin(random: &mut Random) -> Setting {
+pub fn begin(random: &mut Random) -> Setting {
     let mut setting = Setting::new(random);
     let mode = random.pick(&[Mode::Writing, Mode::Reading, Mode::Reading, Mode::Idle]);
     setting.go(mode);
@@ -54,7 +53,7 @@ fn begin(random: &mut Random) -> Setting {
 }
 
 /// The event that keeps a transfer going, or any.
-fn likely(random: &mut Random, setting: &Setting) -> Vec<u8> {
+pub fn likely(random: &mut Random, setting: &Setting) -> Vec<u8> {
     if random.chance(250) {
         return events::any(random);
     }
@@ -75,7 +74,7 @@ fn back(length: u32, tape: Trimmed) -> Lent {
 }
 
 /// Now and then another tape lies under the head: other kinds, cut off, or one byte changed.
-fn change(random: &mut Random, setting: &mut Setting) {
+pub fn change(random: &mut Random, setting: &mut Setting) {
     let head = setting.drive().head;
     let length = setting.tapes[setting.at()].length as usize;
     match random.among(0..10) {

@@ -6,11 +6,11 @@ use super::{events, Index};
 use crate::commands::*;
 use crate::compare::random::Random;
 use crate::probe::board::{Bench, Model};
-use crate::probe::frame::Frame;
+use crate::probe::frame::{Asked, Frame};
 use crate::state::{Drive, Mode, Phase, LATE_ROOM};
 
 /// Room from the head on at which something begins to fit, or just does not.
-const ROOMS: [usize; 24] = [
+pub const ROOMS: [usize; 24] = [
     0, 1, 2, 512, 513, 514, 515, 516, 1025, 1026, 1027, 1028, 1029, 1538, 1539, 1540, 1541, 1542,
     1543, 2053, 2054, 2055, 2568, 4000,
 ];
@@ -85,7 +85,7 @@ pub fn writes(random: &mut Random, _: &mut Index, frames: &mut Vec<Frame>) {
     lend(random, &mut setting);
     for _ in 0..EVENTS {
         let event = next(random, &mut setting);
-        frames.push(follow(&mut bench, &mut setting, &event));
+        frames.push(follow(&mut bench, &mut setting, Asked::Event(event)));
         if random.chance(100) || is_full(&mut setting) {
             lend(random, &mut setting);
         }

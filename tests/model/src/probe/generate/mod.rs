@@ -7,6 +7,7 @@ mod faults;
 mod heads;
 mod late;
 mod longest;
+mod many;
 pub mod parts;
 mod phases;
 mod possible;
@@ -40,6 +41,9 @@ impl Index {
     }
 }
 
+/// Frames that a comparison has where nothing is said.
+pub const FRAMES: usize = 2_350_000;
+
 type Make = fn(&mut Random, &mut Index, &mut Vec<Frame>);
 
 /// A generator, and how often it goes through its list.
@@ -56,7 +60,7 @@ const fn generator(name: &'static str, rounds: usize, make: Make) -> Generator {
 }
 
 /// All generators; the last one fills up to the number asked for.
-static GENERATORS: [Generator; 25] = [
+static GENERATORS: [Generator; 35] = [
     generator("every event in every situation", 4, possible::situations),
     generator("one fault in a record", 12, faults::one),
     generator("several faults in a record", 60_000, faults::several),
@@ -81,6 +85,16 @@ static GENERATORS: [Generator; 25] = [
     Generator { share: 60, ..generator("order of refusals", 1, longest::refusals) },
     Generator { share: 60, ..generator("tapes of 16,777,216", 1, longest::exactly) },
     Generator { share: 30, ..generator("tapes too long", 1, longest::beyond) },
+    generator("many bytes in other surroundings", 300, many::elsewhere),
+    generator("many bytes from every place in a block", 5, many::places),
+    generator("many bytes from a report on", 5, many::reports),
+    generator("many bytes given and their room", 5, many::given),
+    generator("many bytes taken and what follows", 4, many::taken),
+    generator("every number of bytes", 1, many::lengths),
+    generator("calls without a byte", 8, many::nothing),
+    Generator { share: 500, ..generator("many bytes and orders between them", 1500, many::runs) },
+    Generator { share: 60, ..generator("many bytes on the longest tapes", 1, longest::many) },
+    generator("as many bytes as there may be", 1, many::most),
     generator("anything", 0, possible::anything),
 ];
 

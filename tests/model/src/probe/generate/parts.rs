@@ -3,7 +3,7 @@
 use crate::commands::*;
 use crate::compare::random::Random;
 use crate::probe::codec;
-use crate::probe::frame::{Frame, Lent, Step};
+use crate::probe::frame::{Asked, Frame, Lent, Step};
 use crate::state::{Drive, Latched, Mode, Phase, Unit, LONGEST};
 
 /// A record and its tapes, before the event.
@@ -69,12 +69,17 @@ pub fn unknown(random: &mut Random) -> u8 {
     random.pick(&[0x03, 0x80, 0xFF, any])
 }
 
-/// A tape of noise where a head at this place can see; these kinds stand at it and past a block.
-pub fn around(random: &mut Random, length: usize, head: u64, kinds: [u8; 2]) -> Lent {
+/// A tape of noise where a head at this place can see; these kinds stand at it and past each block.
+pub fn around<const N: usize>(
+    random: &mut Random,
+    length: usize,
+    head: u64,
+    kinds: [u8; N],
+) -> Lent {
     let head = length.min(head.try_into().unwrap_or(usize::MAX));
-    let (from, to) = (head.saturating_sub(4), length.min(head + 1040));
+    let (from, to) = (head.saturating_sub(4), length.min(head + 513 * N + 14));
     let mut given = noise(random, to - from);
-    for (place, kind) in [head, head + 513].into_iter().zip(kinds) {
+    for (place, kind) in (head..).step_by(513).zip(kinds) {
         if place < to {
             given[place - from] = kind;
         }
@@ -210,7 +215,11 @@ impl Setting {
 
     /// The frame that sends an event.
     pub fn with(self, event: &[u8]) -> Frame {
-        let record = codec::encode(&self.unit);
-        Frame::Step(Step { record, tapes: self.tapes, event: event.to_vec() })
+        Frame::Step(self.step(Asked::Event(event.to_vec())))
+    }
+
+    /// The call that asks for this.
+    pub fn step(self, asked: Asked) -> Step {
+        Step { record: codec::encode(&self.unit), tapes: self.tapes, asked }
     }
 }

@@ -21,7 +21,7 @@ const EVENTS: [&[u8]; 9] = [
 ];
 
 /// A small number, or one that is small in its low bytes only.
-fn number(index: &mut Index, small: usize) -> u64 {
+pub fn number(index: &mut Index, small: usize) -> u64 {
     const HUGE: [u64; 8] = [
         512 + 256,
         65_537,
