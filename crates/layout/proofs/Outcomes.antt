@@ -8,7 +8,6 @@ one-outcome =
       flag = λ b r r′ p q. same p q;
       is-record = λ l r r′ p q. same p q;
       core-of = λ l r r′ p q. same p q;
-      staging-of = λ l g g′ p q. same p q;
       write-core = λ c l l′ l″ p q. same p q;
       write-record = λ c g l′ l″ p q. same p q;
       write-phase = λ ph l l′ l″ p q. same p q;

@@ -13,7 +13,6 @@ pub record OneOutcome : Type 0 where
   pub flag : (b : Bool) (r r′ : ℕ) → r ≡ flag b → r′ ≡ flag b → r ≡ r′
   pub is-record : (l : List ℕ) (r r′ : Bool) → r ≡ isRecord l → r′ ≡ isRecord l → r ≡ r′
   pub core-of : (l : List ℕ) (r r′ : Core) → r ≡ coreOf l → r′ ≡ coreOf l → r ≡ r′
-  pub staging-of : (l g g′ : List ℕ) → g ≡ stagingOf l → g′ ≡ stagingOf l → g ≡ g′
   pub write-core : (c : Core) (l l′ l″ : List ℕ) → l′ ≡ unitBytes (unit c (stagingOf l)) → l″ ≡ unitBytes (unit c (stagingOf l)) → l′ ≡ l″
   pub write-record : (c : Core) (g l′ l″ : List ℕ) → l′ ≡ unitBytes (unit c g) → l″ ≡ unitBytes (unit c g) → l′ ≡ l″
   pub write-phase : (ph : Phase) (l l′ l″ : List ℕ) → l′ ≡ placed l phaseAt (phaseBytes ph) → l″ ≡ placed l phaseAt (phaseBytes ph) → l′ ≡ l″

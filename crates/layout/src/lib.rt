@@ -5,7 +5,6 @@ mod write;
 
 pub use read::core_of;
 pub use read::is_record;
-pub use read::staging_of;
 pub use write::flag;
 pub use write::write_core;
 pub use write::write_phase;

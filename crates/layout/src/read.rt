@@ -4,7 +4,7 @@ ghost use Prim.Native.Nat.{_+_, _≤_};
 ghost use Rattle.layout.specs.Number.{eightAt};
 ghost use Rattle.layout.specs.Written.{recordSize, driveSize, portSize};
 ghost use Rattle.layout.specs.Read.{stretch, isPhase, isLatched, leavesRoom, isDrive, isPort, isRecord};
-ghost use Rattle.layout.specs.Read.{modeOf, phaseOf, latchedOf, driveOf, portOf, coreOf, stagingOf};
+ghost use Rattle.layout.specs.Read.{modeOf, phaseOf, latchedOf, driveOf, portOf, coreOf};
 use crate::DRIVE;
 use crate::DRIVE_0;
 use crate::DRIVE_1;
@@ -12,7 +12,6 @@ use crate::DRIVE_2;
 use crate::DRIVE_3;
 use crate::PORT;
 use crate::RECORD;
-use crate::STAGING;
 use crate::VERSION;
 use crate::number::of_eight;
 use crate::number::of_four;
@@ -25,7 +24,6 @@ use rules::Mode;
 use rules::Phase;
 use rules::Port;
 use rules::Underruns;
-use tape::BODY;
 
 // No number at Rest.
 fn is_phase(b: u8, n: usize) -> bool
@@ -162,16 +160,6 @@ fn drive_part(buffer: &[u8], at: usize) -> [u8; DRIVE]
     let mut part = [0; DRIVE];
     let end = at + DRIVE;
     bytes::copy(&buffer[at..end], &mut part);
-    part
-}
-
-// The staging block of a record.
-pub fn staging_of(buffer: &[u8]) -> [u8; BODY]
-    requires { do ⌜ (← ⟦buffer.len()⟧) ≡ recordSize ⌝ }
-    ensures { λ r. ⌜ r ≡ stagingOf (now (buffer .entry)) ⌝ }
-{
-    let mut part = [0; BODY];
-    bytes::copy(&buffer[STAGING..RECORD], &mut part);
     part
 }
 
