@@ -5,11 +5,7 @@ use Rattle.rules.specs.declared.phase.Phase.{Phase}
 use Rattle.rules.specs.declared.unit.Core.{Core}
 use Rattle.rules.specs.declared.answer.Answer.the-variants.{Taken}
 use Rattle.rules.specs.declared.answer.Turn.{Turn}
-use Rattle.rules.specs.Unit.{atPhase}
-
--- Another phase, and nothing else.
-abbrev pub movedTo : Core → Phase → Core
-movedTo c ph = record { port = atPhase ph (c .port); drive0 = c .drive0; drive1 = c .drive1; drive2 = c .drive2; drive3 = c .drive3 }
+use Rattle.rules.specs.Unit.{movedTo}
 
 -- A byte within a block is taken: READY and EXCEPTION are down, DIRECTION is up where the host takes bytes.
 abbrev pub movedOn : Core → Phase → Bool → ℕ → Bool → Turn

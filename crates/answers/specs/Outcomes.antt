@@ -20,10 +20,10 @@ use Rattle.rules.specs.Event.{eventOf}
 use Rattle.rules.specs.Lines.{linesOf}
 use Rattle.rules.specs.Refusal.{possible, inStep, slotAnswer, refusalBy}
 use Rattle.rules.specs.Step.{takenTurn, refusedTurn}
-use Rattle.rules.specs.Unit.{driveAt}
+use Rattle.rules.specs.Unit.{driveAt, movedTo}
 use Rattle.answers.specs.declared.looks.Seen.{Seen}
 use Rattle.answers.specs.Looks.{lookOf}
-use Rattle.answers.specs.Moved.{movedTo, movedOn}
+use Rattle.answers.specs.Moved.{movedOn}
 use Rattle.answers.specs.Settled.{Settles}
 use Rattle.answers.specs.Place.{givenPlace, takenPlace, octetsLeft, bodyOf}
 

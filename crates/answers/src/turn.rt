@@ -2,7 +2,8 @@
 ghost use mathlib.Core.Path.{_≡_};
 ghost use Rattle.basis.specs.Choice.{pick};
 ghost use Rattle.rules.specs.declared.answer.Answer.the-variants.{Taken, Raised};
-ghost use Rattle.answers.specs.Moved.{movedTo, movedOn};
+ghost use Rattle.rules.specs.Unit.{movedTo};
+ghost use Rattle.answers.specs.Moved.{movedOn};
 ghost use Rattle.rules.specs.Step.{refusedTurn, takenTurn};
 use crate::three_lines::lines;
 use crate::three_lines::lines_after;

@@ -13,7 +13,8 @@ use Rattle.rules.specs.declared.unit.Core.{Core}
 use Rattle.rules.specs.Phase.{reportSize}
 use Rattle.layout.specs.Written.{recordSize, phaseAt, phaseBytes, portBytes, unit, unitBytes}
 use Rattle.layout.specs.Read.{isRecord, portOf, coreOf, stagingOf}
-use Rattle.layout.specs.Laws.{Octets, StagingLent, coreAt, PhaseMoved}
+use Rattle.rules.specs.Unit.{movedTo}
+use Rattle.layout.specs.Laws.{Octets, StagingLent, PhaseMoved}
 use Rattle.layout.proofs.Stretch.{stretch-end, skip, here}
 use Rattle.layout.proofs.Parts.{coreBytes, core-long, core-then}
 use Rattle.layout.proofs.Form.{one-form}
@@ -33,7 +34,7 @@ staging-put l g size long =
     ap stagingOf (append-assoc (take 146 l) g rest) ∙ skip (take 146 l) (g ++ rest) 146 0 512 (before l size) ∙ here g rest 512 long
 
 -- a phase put into a record's bytes is the phase of the record
-phase-put : (c : Core) (g : List ℕ) (ph : Phase) → placed (unitBytes (unit c g)) phaseAt (phaseBytes ph) ≡ unitBytes (unit (coreAt ph c) g)
+phase-put : (c : Core) (g : List ℕ) (ph : Phase) → placed (unitBytes (unit c g)) phaseAt (phaseBytes ph) ≡ unitBytes (unit (movedTo c ph) g)
 unfolding placed unitBytes portBytes
 phase-put c g ph = refl
 

@@ -7,9 +7,8 @@ use lib.ListN.{length, take}
 use Rattle.basis.specs.Placed.{placed}
 use Rattle.tape.specs.Record.{bodySize}
 use Rattle.rules.specs.declared.phase.Phase.{Phase}
-use Rattle.rules.specs.declared.unit.Core.{Core}
 use Rattle.rules.specs.declared.unit.Unit.{Unit}
-use Rattle.rules.specs.Unit.{atPhase}
+use Rattle.rules.specs.Unit.{movedTo}
 use Rattle.layout.specs.Number.{byteAt}
 use Rattle.layout.specs.Written.{recordSize, phaseAt, phaseBytes, unit, Sized, unitBytes}
 use Rattle.layout.specs.Read.{isRecord, coreOf, stagingOf, unitOf}
@@ -31,10 +30,7 @@ abbrev pub StagingLent : Type 0
 StagingLent = (l g : List ℕ) → length l ≡ recordSize → length g ≡ bodySize → stagingOf (take 146 l ++ g) ≡ g
 
 -- A record with another phase written into it, and another staging block, is that record with nothing else changed.
-abbrev pub coreAt : Phase → Core → Core
-coreAt ph c = record { port = atPhase ph (c .port); drive0 = c .drive0; drive1 = c .drive1; drive2 = c .drive2; drive3 = c .drive3 }
-
 abbrev pub PhaseMoved : Type 0
 PhaseMoved =
     (l g : List ℕ) (ph : Phase) → Octets l → isRecord l ≡ true → length g ≡ bodySize
-    → placed (take 146 l ++ g) phaseAt (phaseBytes ph) ≡ unitBytes (unit (coreAt ph (coreOf l)) g)
+    → placed (take 146 l ++ g) phaseAt (phaseBytes ph) ≡ unitBytes (unit (movedTo (coreOf l) ph) g)

@@ -3,9 +3,10 @@ use Prim.Native.Nat.{ℕ}
 use mathlib.Core.Path.{_≡_, refl, sym, ap, ap₂, _∙_}
 use mathlib.Core.List.{List, [], _∷_, _++_}
 use Rattle.rules.specs.declared.answer.Turn.{Turn}
+use Rattle.rules.specs.Unit.{Lent}
 use Rattle.rules.specs.Step.{Stepped}
 use Rattle.rules.specs.Run.{World, world, after, run, turnOf, turns}
-use Rattle.rules.specs.Ran.{no-event, next, RunsAreTheBooks, EveryRun, StepsAreTheBooks, LoopGoesOn, LoopLaws, RunLaws, RanAppend}
+use Rattle.rules.specs.Ran.{no-event, next, RunsAreTheBooks, EveryRun, StepsAreTheBooks, LoopGoesOn, SameSizes, LoopLaws, RunLaws, RanAppend}
 
 pub steps-are-the-books : StepsAreTheBooks
 unfolding after turnOf
@@ -21,20 +22,20 @@ loop-goes-on c l event r l′ still rest p first =
           ap₂ (λ (t : Turn) (w : World). t ∷ turns w rest) (sym (one .answered)) (sym (one .left)) ∙ sym (ap (turns (world c l)) first);
     }
 
+pub same-sizes : (l : Lent) → SameSizes l l
+same-sizes l = record { size0 = refl; size1 = refl; size2 = refl; size3 = refl }
+
+pub sizes-on : {l l′ l₀ : Lent} → SameSizes l′ l → SameSizes l l₀ → SameSizes l′ l₀
+sizes-on p q = record { size0 = p .size0 ∙ q .size0; size1 = p .size1 ∙ q .size1; size2 = p .size2 ∙ q .size2; size3 = p .size3 ∙ q .size3 }
+
 pub loop-laws : LoopLaws
 loop-laws =
     record {
-      begins = λ c l whole. record { leads = refl; sizes = record { size0 = refl; size1 = refl; size2 = refl; size3 = refl } };
+      begins = λ c l whole. record { leads = refl; sizes = same-sizes l };
       goes-on = λ {c₀} {c} {l₀} {l} {l′} {whole} {still} {rest} {event} {r} at step first kept.
           record {
             leads = loop-goes-on c l event r l′ still rest step first .run-on ∙ at .leads;
-            sizes =
-                record {
-                  size0 = kept .size0 ∙ at .sizes .size0;
-                  size1 = kept .size1 ∙ at .sizes .size1;
-                  size2 = kept .size2 ∙ at .sizes .size2;
-                  size3 = kept .size3 ∙ at .sizes .size3;
-                };
+            sizes = sizes-on kept (at .sizes);
           };
       ends = λ {c₀} {c} {l₀} {l} {whole} {still} at none. ap (run (world c l)) (sym none) ∙ at .leads;
     }

@@ -76,6 +76,10 @@ atDrive n p = record { selected = n; online = p .online; phase = Rest; octets = 
 abbrev pub showing : List ℕ → Port → Port
 showing octets p = record { selected = p .selected; online = p .online; phase = Status reportSize; octets = octets }
 
+-- A core in another phase, with nothing else changed.
+abbrev pub movedTo : Core → Phase → Core
+movedTo c ph = record { port = atPhase ph (c .port); drive0 = c .drive0; drive1 = c .drive1; drive2 = c .drive2; drive3 = c .drive3 }
+
 -- Fresh: nothing selected but drive 0, the line low, nothing under way, all bytes 0.
 abbrev pub freshPort : Port
 freshPort = record { selected = 0; online = false; phase = Rest; octets = replicate reportSize 0 }

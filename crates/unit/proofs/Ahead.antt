@@ -21,7 +21,7 @@ use Rattle.rules.specs.declared.unit.Core.{Core}
 use Rattle.rules.specs.declared.answer.Turn.{Turn}
 use Rattle.rules.specs.Drive.{writes, reads}
 use Rattle.rules.specs.Phase.{lastPlace, atRest, givenBefore, takenBefore}
-use Rattle.rules.specs.Unit.{Lent, driveAt, tapeAt, putStaging}
+use Rattle.rules.specs.Unit.{Lent, driveAt, tapeAt, putStaging, movedTo}
 use Rattle.rules.specs.Refusal.{possible, short}
 use Rattle.rules.specs.Edge.{isBlock}
 use Rattle.rules.specs.Bytes.{stagedByte}
@@ -32,9 +32,9 @@ use Rattle.rules.proofs.Keeps.{stays-possible}
 use Rattle.rules.proofs.Giving.{placeAt, given-place, may-give, give-event, staged-there}
 use Rattle.rules.proofs.Handing.{takenAt, take-event}
 use Rattle.port.proofs.Whole.{whole}
-use Rattle.answers.specs.Moved.{movedTo, movedOn}
+use Rattle.answers.specs.Moved.{movedOn}
 use Rattle.unit.specs.Ahead.{aheadOf, givenAhead, readAhead, takenAhead, nextBytes, glided, GivenGlide, TakenGlide}
-use Rattle.unit.proofs.Inside.{byte-given, byte-taken}
+use Rattle.unit.proofs.Inside.{byte-given, byte-taken, giving-at}
 
 -- a count that is not 0 tells which it is
 some-picked : (b : Bool) (x k : ℕ) → k ≡ pick b x 0 → 1 ≤ k → (b ≡ true) × (k ≡ x)
@@ -149,13 +149,6 @@ place-taking zero some = absurd (none some)
     none h = omega (arith, h)
 place-taking (suc m) some = refl
 
-place-giving : (m : ℕ) → 1 ≤ m → takenAt m ≡ Giving m
-place-giving zero some = absurd (none some)
-  where
-    none : 1 ≤ 0 → ⊥
-    none h = omega (arith, h)
-place-giving (suc m) some = refl
-
 pub given-glide : GivenGlide
 unfolding pick givenAhead
 given-glide c l bs want size is some =
@@ -187,7 +180,7 @@ taken-glide c l k want size is some =
     let here = taken-at ph (ahead .begun) in
     let calm′ : (possible (movedTo c (takenAt n)) && short l) ≡ true = ap (λ (x : Phase). possible (movedTo c x) && short l) here ∙ calm .0 in
     let all = takes-on c l k n (reading .0) (block .0) (ahead .within) size calm′ in
-    let far = place-giving (n + k) (omega (arith, some)) in
+    let far = sym (giving-at (n + k) (omega (arith, some))) in
     let bytes = each-is k (d .head + 1 + n) t (omega (arith, whole t (d .head) (block .0), ahead .within)) in
     renamed (ap (λ (x : Phase). world (movedTo c x) l) here) (ap (glided c Giving true n) bytes) (ap (λ (x : Phase). world (movedTo c x) l) far) all
 

@@ -13,7 +13,8 @@ use Rattle.rules.specs.Unit.{Lent}
 use Rattle.rules.specs.Step.{Steps}
 use Rattle.rules.specs.Run.{World, world, after, run, turnOf, turns}
 use Rattle.rules.specs.Ran.{Ran, no-event, next, SameSizes}
-use Rattle.rules.proofs.Ran.{runs-are-the-books, steps-are-the-books, every-run, run-append, turns-append}
+use Rattle.rules.specs.Promises.Strike.{AllTaken}
+use Rattle.rules.proofs.Ran.{runs-are-the-books, steps-are-the-books, every-run, same-sizes, sizes-on, run-append, turns-append}
 use Rattle.unit.specs.declared.many.Handed.{Handed}
 use Rattle.unit.specs.Handover.{isZero, upTo, turnsUpTo, countOf, lastOf, noEvent, Over, over, handover, HandoverRan, AllRun}
 use Rattle.unit.specs.Ahead.{Leg}
@@ -28,18 +29,13 @@ pub last-append : (x : Turn) (rs ts : List Turn) → lastOf x (rs ++ ts) ≡ las
 last-append x [] ts = refl
 last-append x (r ∷ rs) ts = last-append r rs ts
 
--- Every event answered 0.
-abbrev pub AllZero : List Turn → Type 0
-AllZero [] = Prim.Unit
-AllZero (r ∷ rs) = (isZero r ≡ true) × AllZero rs
-
 -- ---- Where each event is answered 0, those behind them are still to come
 
-pub up-to-on : (w w′ : World) (es fs : List (List ℕ)) (rs : List Turn) → Ran w es rs w′ → AllZero rs → upTo w (es ++ fs) ≡ es ++ upTo w′ fs
+pub up-to-on : (w w′ : World) (es fs : List (List ℕ)) (rs : List Turn) → Ran w es rs w′ → AllTaken rs → upTo w (es ++ fs) ≡ es ++ upTo w′ fs
 up-to-on w w′ [] fs [] no-event all = refl
 up-to-on w w′ (e ∷ es) fs (r ∷ rs) (next {c} {l} {l′} p more) all =
     let one = steps-are-the-books c l e r l′ p in
-    let zero : isZero (turnOf (world c l) e) ≡ true = ap isZero (one .answered) ∙ all .0 in
+    let zero : isZero (turnOf (world c l) e) ≡ true = ap isZero (one .answered) ∙ rw (all .0) refl in
     ap (λ (x : List (List ℕ)). e ∷ x)
     (elim-true (isZero (turnOf (world c l) e)) (upTo (after (world c l) e) (es ++ fs)) [] zero
     ∙ ap (λ (x : World). upTo x (es ++ fs)) (one .left) ∙ up-to-on (world (r .core) l′) w′ es fs rs more (all .1))
@@ -140,21 +136,11 @@ pub record Sizes (l l₀ : Lent) : Type 0 where
   pub staging : length (l .staging) ≡ length (l₀ .staging)
   pub tapes : SameSizes l l₀
 
-pub same-sizes : (l : Lent) → Sizes l l
-same-sizes l = record { staging = refl; tapes = record { size0 = refl; size1 = refl; size2 = refl; size3 = refl } }
+pub all-sizes : (l : Lent) → Sizes l l
+all-sizes l = record { staging = refl; tapes = same-sizes l }
 
-pub sizes-on : {l l′ l₀ : Lent} → Sizes l′ l → Sizes l l₀ → Sizes l′ l₀
-sizes-on p q =
-    record {
-      staging = p .staging ∙ q .staging;
-      tapes =
-          record {
-            size0 = p .tapes .size0 ∙ q .tapes .size0;
-            size1 = p .tapes .size1 ∙ q .tapes .size1;
-            size2 = p .tapes .size2 ∙ q .tapes .size2;
-            size3 = p .tapes .size3 ∙ q .tapes .size3;
-          };
-    }
+pub all-sizes-on : {l l′ l₀ : Lent} → Sizes l′ l → Sizes l l₀ → Sizes l′ l₀
+all-sizes-on p q = record { staging = p .staging ∙ q .staging; tapes = sizes-on (p .tapes) (q .tapes) }
 
 -- Where it stands: some turns were had, and the lengths are kept. P is what else those turns come to.
 pub record Standing (went : Turn → Bool) (c₀ : Core) (l₀ : Lent) (all : List (List ℕ)) (n : ℕ) (last : Turn) (l : Lent) (still : List (List ℕ))

@@ -23,7 +23,7 @@ use Rattle.rules.specs.declared.answer.Lines.{Lines}
 use Rattle.rules.specs.declared.answer.Turn.{Turn}
 use Rattle.rules.specs.Drive.{isWriting, isReading, writes, reads}
 use Rattle.rules.specs.Phase.{lastPlace, givenBefore, takenBefore, outstanding}
-use Rattle.rules.specs.Unit.{Lent, driveAt, putDrive, tapeAt, putStaging, atPhase}
+use Rattle.rules.specs.Unit.{Lent, driveAt, putDrive, tapeAt, putStaging, atPhase, movedTo}
 use Rattle.rules.specs.Lines.{linesAt, linesOf}
 use Rattle.rules.specs.Refusal.{possible, short, inStepAt}
 use Rattle.rules.specs.Edge.{isBlock}
@@ -40,7 +40,7 @@ use Rattle.unit.specs.declared.within.Inside.{Inside}
 use Rattle.answers.specs.declared.looks.Seen.{Seen}
 use Rattle.answers.specs.Looks.{lookOf}
 use Rattle.unit.specs.Within.{nextOf, PhaseMoves, noInside, givenInside, takenInside, insideOf, InsideSteps}
-use Rattle.answers.specs.Moved.{movedTo, movedOn}
+use Rattle.answers.specs.Moved.{movedOn}
 use Rattle.answers.specs.Place.{within, onlyAt, givenPlace, takenPlace, octetsLeft, bodyOf}
 use Rattle.answers.specs.Settled.{settledBy}
 use Rattle.unit.proofs.Settling.{steps-by}
@@ -198,7 +198,7 @@ module _ (c : Core) (l : Lent) (event : List ℕ) (calm : (possible c && short l
       (ap (byteTaken (seatOf c l)) at ∙ taken-is (seatOf c l) n (is-block _ whole) ∙ part) in
       settles _ _ (Own Take) is (ap (λ (x : Turn). stepped x l) shown ∙ moves)
 
-giving-at : (n : ℕ) → 0 < n → Giving n ≡ takenAt n
+pub giving-at : (n : ℕ) → 0 < n → Giving n ≡ takenAt n
 giving-at zero some = absurd (not-suc-le-zero some)
 giving-at (suc n) some = refl
 

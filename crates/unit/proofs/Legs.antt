@@ -9,6 +9,7 @@ use native.Mathlib.Numerals.{add-one}
 use lib.ListN.{length, getD, take, drop, set, replicate, length-replicate, getD-replicate, take-append-drop, drop-of-length-le}
 use lib.Seq.{length-take-le, drop-drop}
 use lib.Dec.{eqb}
+use borrow.Author.Tests.{eqb-true}
 use Rattle.basis.specs.Choice.{pick}
 use Rattle.basis.specs.Placed.{placed}
 use Rattle.basis.proofs.Placing.{placed-none, placed-sets, placed-byte, placed-then}
@@ -16,33 +17,34 @@ use Rattle.rules.specs.declared.phase.Phase.{Phase}
 use Rattle.rules.specs.declared.phase.Phase.the-variants.{Taking, Giving}
 use Rattle.rules.specs.declared.unit.Core.{Core}
 use Rattle.rules.specs.declared.answer.Answer.{Answer}
-use Rattle.rules.specs.declared.answer.Answer.the-variants.{Taken, Raised, OutOfStep, WrongSlot, Malformed, Impossible, TooLong}
+use Rattle.rules.specs.declared.answer.Answer.the-variants.{Taken}
 use Rattle.rules.specs.declared.answer.Turn.{Turn}
 use Rattle.rules.specs.Answer.{rowOf}
 use Rattle.rules.specs.Phase.{givenBefore, takenBefore}
-use Rattle.rules.specs.Unit.{Lent, driveAt, tapeAt, putStaging}
+use Rattle.rules.specs.Unit.{Lent, driveAt, tapeAt, putStaging, movedTo}
 use Rattle.rules.specs.Refusal.{possible, short}
 use Rattle.rules.specs.Step.{Steps}
 use Rattle.rules.specs.Run.{World, world, givenEach, takenTimes}
 use Rattle.rules.specs.Ran.{Ran, no-event, next}
 use Rattle.rules.specs.Reach.{onlyIf}
-use Rattle.rules.specs.Promises.Strike.{handedOut}
+use Rattle.rules.specs.Promises.Strike.{AllTaken, handedOut}
+use Rattle.rules.proofs.Table.{numbers-tell-apart}
 use Rattle.rules.proofs.Handing.{take-event}
-use Rattle.answers.specs.Moved.{movedTo, movedOn}
+use Rattle.answers.specs.Moved.{movedOn}
 use Rattle.unit.specs.declared.many.Handed.{Handed}
 use Rattle.unit.specs.Handover.{isZero, upTo, wentIn, wentOut, countOf, lastOf, GivesOver, took, takenOver, TakesOver}
 use Rattle.unit.specs.Ahead.{givenAhead, takenAhead, nextBytes, glided, Leg, GivesSome, TakesSome}
 use Rattle.unit.proofs.Bytes.{byte-then-rest}
 use Rattle.unit.proofs.Demands.{demands-hold}
-use Rattle.unit.proofs.Handover.{AllZero, up-to-on, up-to-ends, UnderWay, goes-on, stops, ends, Sizes, sizes-on, Standing}
+use Rattle.unit.proofs.Handover.{up-to-on, up-to-ends, UnderWay, goes-on, stops, ends, Sizes, all-sizes-on, Standing}
 use Rattle.unit.proofs.Ahead.{renamed, given-glide, taken-glide, given-fits, taken-fits, taken-long}
 
 -- ---- The turns of a stretch
 
 module _ (c : Core) (ph : ℕ → Phase) (given : Bool) where
-  all-zero : (n : ℕ) (bs : List ℕ) → AllZero (glided c ph given n bs)
-  all-zero n [] = tt
-  all-zero n (b ∷ bs) = (refl, all-zero (suc n) bs)
+  all-taken : (n : ℕ) (bs : List ℕ) → AllTaken (glided c ph given n bs)
+  all-taken n [] = tt
+  all-taken n (b ∷ bs) = (refl, all-taken (suc n) bs)
 
   count-each : (went : Turn → Bool) → ((m b : ℕ) → went (movedOn c (ph m) given b given) ≡ true) → (n : ℕ) (bs : List ℕ)
       → countOf went (glided c ph given n bs) ≡ length bs
@@ -75,7 +77,7 @@ out-each c n (b ∷ bs) = ap (λ (l : List ℕ). b ∷ l) (out-each c (suc n) bs
 
 -- a stretch is a leg: it goes on
 stretch-leg : (went : Turn → Bool) (w : World) (es some rest : List (List ℕ)) (r : Handed) (l′ : Lent) (rs : List Turn)
-    → es ≡ some ++ rest → Ran w some rs (world (r .last .core) l′) → AllZero rs → ((x : Turn) → lastOf x rs ≡ r .last) → countOf went rs ≡ r .count
+    → es ≡ some ++ rest → Ran w some rs (world (r .last .core) l′) → AllTaken rs → ((x : Turn) → lastOf x rs ≡ r .last) → countOf went rs ≡ r .count
     → isZero (r .last) ≡ true → 1 ≤ r .count → Leg went w es r l′ rest rs
 stretch-leg went w es some rest r l′ rs all ran zeros last count so moves =
     record {
@@ -87,6 +89,10 @@ stretch-leg went w es some rest r l′ rs all ran zeros last count so moves =
       ends = λ other. absurd (false≢true (sym other ∙ so));
       moves = λ _. moves;
     }
+
+-- answer 0 is the one that says taken
+zero-taken : (a : Answer) → eqb (rowOf a .number) 0 ≡ true → a ≡ Taken
+zero-taken a so = numbers-tell-apart a Taken (eqb-true (rowOf a .number) 0 so)
 
 -- one event is a leg, whatever it is answered
 step-leg : (went : Turn → Bool) (c : Core) (l : Lent) (e : List ℕ) (es behind rest : List (List ℕ)) (t : Turn) (l′ : Lent) (k : ℕ)
@@ -102,22 +108,13 @@ step-leg went c l e es behind rest t l′ k step count goes first then =
       last = λ x. refl;
       count = omega (arith, count);
       goes-on = λ so.
-          ap (upTo (world c l)) first ∙ up-to-on (world c l) w′ (e ∷ []) behind (t ∷ []) (next step no-event) (so, tt)
+          ap (upTo (world c l)) first ∙ up-to-on (world c l) w′ (e ∷ []) behind (t ∷ []) (next step no-event) (zero-taken (t .answer) so, tt)
           ∙ ap (λ (x : List (List ℕ)). e ∷ upTo w′ x) (then (one so));
       ends = λ other. ap (upTo (world c l)) first ∙ up-to-ends c l e t l′ behind step other;
       moves = λ so. omega (arith, one so);
     }
 
--- ---- What answer 0 says
-
-zero-taken : (a : Answer) → eqb (rowOf a .number) 0 ≡ true → a ≡ Taken
-zero-taken Taken so = refl
-zero-taken Raised so = absurd (false≢true so)
-zero-taken OutOfStep so = absurd (false≢true so)
-zero-taken WrongSlot so = absurd (false≢true so)
-zero-taken Malformed so = absurd (false≢true so)
-zero-taken Impossible so = absurd (false≢true so)
-zero-taken TooLong so = absurd (false≢true so)
+-- ---- What went over
 
 -- a byte given that is answered 0 went over, and so did a byte taken
 went-in : (t : Turn) → isZero t ≡ true → wentIn t ≡ true
@@ -155,7 +152,7 @@ given-leg c l bytes k last g size is some turn put =
       leg =
           stretch-leg wentIn (world c l) (givenEach bytes) (givenEach bs) (givenEach (drop k bytes)) (record { count = k; last = last }) (putStaging l g)
           (glided c Taking false n zeros) (ap givenEach (sym (take-append-drop k bytes)) ∙ given-append bs (drop k bytes)) ran
-          (all-zero c Taking false n zeros)
+          (all-taken c Taking false n zeros)
           (λ x. last-some c Taking false x n zeros many
           ∙ ap₂ (λ (m b : ℕ). movedOn c (Taking (n + m)) false b false) (as-many) byte ∙ sym turn)
           (count-each c Taking false wentIn (λ m b. refl) n zeros ∙ as-many) (ap isZero turn) some;
@@ -209,7 +206,7 @@ taken-leg c l out at k last out′ size inside is some put turn =
       leg =
           stretch-leg wentOut (world c l) (takenTimes (length out - at)) (takenTimes k) (takenTimes (length out - (at + k)))
           (record { count = k; last = last }) l (glided c Giving true n bs) (ap takenTimes all ∙ taken-append k (length out - (at + k))) ran
-          (all-zero c Giving true n bs)
+          (all-taken c Giving true n bs)
           (λ x. last-some c Giving true x n bs many ∙ ap₂ (λ (m b : ℕ). movedOn c (Giving (n + m)) true b true) long (sym byte) ∙ sym turn)
           (count-each c Giving true wentOut (λ m b. refl) n bs ∙ long) (ap isZero turn) some;
       fits = omega (arith, fits, inside);
@@ -242,11 +239,6 @@ taken-one c l out at k t l′ out′ size inside step count put =
 
 -- ---- Leg after leg
 
--- an answer that stops a call
-pub other-than-0 : (b : Bool) → not b ≡ true → b ≡ false
-other-than-0 false so = refl
-other-than-0 true so = absurd (false≢true so)
-
 module _ (c₀ : Core) (l₀ : Lent) (bytes : List ℕ) (n : ℕ) (last : Turn) (l : Lent) where
   abbrev GivenSoFar : ℕ → Turn → Lent → Type 0
   GivenSoFar m x k = Standing wentIn c₀ l₀ (givenEach bytes) m x k (givenEach (drop m bytes)) (λ rs. Prim.Unit)
@@ -261,7 +253,7 @@ module _ (c₀ : Core) (l₀ : Lent) (bytes : List ℕ) (n : ℕ) (last : Turn) 
           rs = at .rs ++ some .rs;
           at =
               subst (λ (x : List ℕ). UnderWay wentIn c₀ l₀ (givenEach bytes) (n + r .count) (r .last) l′ (givenEach x) (at .rs ++ some .rs)) rest on;
-          sizes = sizes-on kept (at .sizes);
+          sizes = all-sizes-on kept (at .sizes);
           more = tt;
         }
 
@@ -318,7 +310,7 @@ module _ (c₀ : Core) (l₀ : Lent) (out₀ : List ℕ) (n : ℕ) (last : Turn)
           at =
               goes-on wentOut c₀ l₀ (takenTimes (length out₀)) n last l (takenTimes (length out₀ - n)) (at .rs) r l′
               (takenTimes (length out₀ - (n + r .count))) (some .rs) (at .at) leg so;
-          sizes = sizes-on kept (at .sizes);
+          sizes = all-sizes-on kept (at .sizes);
           more = put-on;
         }
 

@@ -15,13 +15,13 @@ use Rattle.rules.specs.declared.unit.Core.{Core}
 use Rattle.rules.specs.declared.answer.Turn.{Turn}
 use Rattle.rules.specs.Drive.{writes, reads}
 use Rattle.rules.specs.Phase.{lastPlace, atRest, givenBefore, takenBefore}
-use Rattle.rules.specs.Unit.{Lent, driveAt, tapeAt, putStaging}
+use Rattle.rules.specs.Unit.{Lent, driveAt, tapeAt, putStaging, movedTo}
 use Rattle.rules.specs.Refusal.{possible, short}
 use Rattle.rules.specs.Edge.{isBlock}
 use Rattle.rules.specs.Run.{World, world, givenEach, takenTimes}
 use Rattle.rules.specs.Ran.{Ran}
 use Rattle.rules.specs.Promises.Strike.{handedOut}
-use Rattle.answers.specs.Moved.{movedTo, movedOn}
+use Rattle.answers.specs.Moved.{movedOn}
 use Rattle.unit.specs.declared.many.Handed.{Handed}
 use Rattle.unit.specs.Handover.{isZero, upTo, wentIn, wentOut, countOf, lastOf}
 

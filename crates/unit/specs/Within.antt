@@ -15,12 +15,12 @@ use Rattle.rules.specs.declared.event.Act.{Act}
 use Rattle.rules.specs.declared.event.Act.the-variants.{Give, Take}
 use Rattle.rules.specs.declared.event.Event.the-variants.{Own}
 use Rattle.rules.specs.Drive.{writes, reads}
-use Rattle.rules.specs.Unit.{Lent, driveAt, tapeAt, atPhase}
+use Rattle.rules.specs.Unit.{Lent, driveAt, tapeAt, atPhase, movedTo}
 use Rattle.rules.specs.Refusal.{possible, short, inStepAt}
 use Rattle.rules.specs.Edge.{isBlock}
 use Rattle.rules.specs.Effect.{acted}
 use Rattle.rules.specs.Step.{act, seatOf, stagedIn, stepped, takenTurn, Steps}
-use Rattle.answers.specs.Moved.{movedTo, movedOn}
+use Rattle.answers.specs.Moved.{movedOn}
 use Rattle.answers.specs.Place.{givenPlace, takenPlace, bodyOf}
 use Rattle.answers.specs.Settled.{settledBy}
 use Rattle.unit.specs.declared.within.Next.{Next}

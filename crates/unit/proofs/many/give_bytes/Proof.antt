@@ -5,12 +5,13 @@ use mathlib.Core.List.{[]}
 use native.Mathlib.Omega.{arith}
 use lib.ListN.{length, drop, length-take, length-drop}
 use borrow.Author.Needs.{needs}
+use borrow.Author.Tests.{not-true}
 use Rattle.rules.specs.Unit.{lent}
 use Rattle.rules.specs.Run.{givenEach}
 use Rattle.unit.specs.Handover.{wentIn}
-use Rattle.unit.proofs.Handover.{Standing, begins, begun, same-sizes}
+use Rattle.unit.proofs.Handover.{Standing, begins, begun, all-sizes}
 use Rattle.tape.proofs.Parts.{part-of}
-use Rattle.unit.proofs.Legs.{other-than-0, given-on, given-stops, given-ends}
+use Rattle.unit.proofs.Legs.{given-on, given-stops, given-ends}
 use Rattle.basis.proofs.Choosing.{not-not}
 use Rattle.unit.proofs.many.give_bytes.Statement.{statement}
 use Rattle.unit.proofs.many.give_bytes.Tie as tie
@@ -28,7 +29,7 @@ done-requires : tie.Need-done-requires Inv-loop μ-loop
 done-requires c κs = search needs
 
 loop-holds : tie.Need-loop-holds Inv-loop μ-loop
-loop-holds c = rw (c .done .ensures) (record { rs = []; at = begins _ _ _ _ _ refl; sizes = same-sizes _; more = tt }, omega arith)
+loop-holds c = rw (c .done .ensures) (record { rs = []; at = begins _ _ _ _ _ refl; sizes = all-sizes _; more = tt }, omega arith)
 
 sub-give-some : tie.Need-sub-give-some Inv-loop μ-loop
 sub-give-some c = search needs
@@ -78,7 +79,7 @@ returns c =
     let a = c30 .args in
     let n = c22 .loop .count in
     let some = rw (part-of (a .bytes .now) n) at (c14 .give-some .ensures) in
-    let other = other-than-0 _ (rw (c .before .answered-0 .ensures) at (c .if1 .taken)) in
+    let other = not-true _ (rw (c .before .answered-0 .ensures) at (c .if1 .taken)) in
     rw (← begun (c22 .before .done .ensures)) (given-stops _ _ (a .bytes .now) n _ _ _ _ (c22 .loop .inv .0) some other)
 
 loop-less : tie.Need-loop-less Inv-loop μ-loop

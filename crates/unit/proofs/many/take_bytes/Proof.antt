@@ -5,6 +5,7 @@ use mathlib.Core.List.{List, []}
 use native.Mathlib.Omega.{arith}
 use lib.ListN.{length}
 use borrow.Author.Needs.{needs}
+use borrow.Author.Tests.{not-true}
 use Rattle.basis.specs.Placed.{placed}
 use Rattle.basis.proofs.Choosing.{not-not}
 use Rattle.basis.proofs.Placing.{placed-none}
@@ -13,8 +14,8 @@ use Rattle.rules.specs.Unit.{lent}
 use Rattle.rules.specs.Run.{takenTimes}
 use Rattle.rules.specs.Promises.Strike.{handedOut}
 use Rattle.unit.specs.Handover.{wentOut}
-use Rattle.unit.proofs.Handover.{Standing, begins, begun, same-sizes}
-use Rattle.unit.proofs.Legs.{other-than-0, taken-on, taken-stops, taken-ends}
+use Rattle.unit.proofs.Handover.{Standing, begins, begun, all-sizes}
+use Rattle.unit.proofs.Legs.{taken-on, taken-stops, taken-ends}
 use Rattle.unit.proofs.many.take_bytes.Statement.{statement}
 use Rattle.unit.proofs.many.take_bytes.Tie as tie
 
@@ -35,7 +36,7 @@ loop-holds c =
     let out = c .before .before .before .before .before .before .before .args .out .now in
     let all : length out ≡ length out - 0 = omega arith in
     rw (c .done .ensures)
-    (record { rs = []; at = begins _ _ _ _ _ (ap takenTimes all); sizes = same-sizes _; more = sym (placed-none out 0) }, (omega arith, refl))
+    (record { rs = []; at = begins _ _ _ _ _ (ap takenTimes all); sizes = all-sizes _; more = sym (placed-none out 0) }, (omega arith, refl))
 
 take-some-requires : tie.Need-take-some-requires Inv-loop μ-loop
 take-some-requires c κs = let c7 = c .before .before .before .before .before .before .before in (c7 .loop .inv .0 .sizes .staging ∙ c7 .before .before .before .before .before .before .before .before .pre, c .before .before .before .before .before .before .loop-test .taken)
@@ -75,7 +76,7 @@ returns c =
     let a = c32 .args in
     let inv = c24 .loop .inv in
     let some = c16 .take-some .ensures in
-    let other = other-than-0 _ (rw (c .before .answered-0 .ensures) at (c .if1 .taken)) in
+    let other = not-true _ (rw (c .before .answered-0 .ensures) at (c .if1 .taken)) in
     rw (← begun (c24 .before .done .ensures))
     (taken-stops _ _ (a .out .now) _ _ _ _ _ _ _ (inv .1 .1) (inv .0) some other)
 
