@@ -95,7 +95,8 @@ void agree_end(const struct row *row, const struct input *in) {
 
 // The blocks of a row moved in each way: the selected drive, the bytes and the tapes at the end.
 void agree_blocks(const struct row *row) {
-    static const char *const names[MOVERS] = {"baseline", "two copies", "one call a block", "one call on a core"};
+    static const char *const names[MOVERS] = {"baseline", "two copies", "one call a block", "one call for eight",
+                                              "one call on a core"};
     struct blocks b = blocks_of(row);
     uint8_t *first = others[0];
     size_t selected = 0;

@@ -11,11 +11,11 @@ enum { ROUNDS = 15, MIXED = 1046 };
 enum way { PLAIN, CORE, WHOLE, BOARD, WAYS };
 
 // The ways of moving blocks: by the C event by event, and by two plain copies with the block's end; by one call of the
-// archive for each block, and by one call on a core for all of them.
-enum mover { EVENTS, COPIES, CALLS, AT_ONCE, MOVERS };
+// archive for each block and for eight of them, and by one call on a core for all of them.
+enum mover { EVENTS, COPIES, CALLS, EIGHTS, AT_ONCE, MOVERS };
 
 // Room in a table of times.
-enum { SIDES = 4 };
+enum { SIDES = 5 };
 _Static_assert((int)WAYS <= (int)SIDES && (int)MOVERS <= (int)SIDES, "a table of times has room for every way");
 
 // Events of two bytes each, a kind and a body; the body is no part of the kinds 03 to 06.

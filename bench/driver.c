@@ -125,14 +125,16 @@ static void many(size_t rounds, size_t part, const struct times *within) {
         {"a block read by glenoulty_take", take, EVENTS, CALLS, 0.15},
         {"a block written by glenoulty_give, against copies", give, COPIES, CALLS, 3},
         {"a block read by glenoulty_take, against copies", take, COPIES, CALLS, 3},
+        {"a block of eight written by glenoulty_give, against copies", give, COPIES, EIGHTS, 3},
+        {"a block of eight read by glenoulty_take, against copies", take, COPIES, EIGHTS, 3},
         {"a block written by give_bytes on a core", give, EVENTS, AT_ONCE, 0.1},
         {"a block read by take_bytes on a core", take, EVENTS, AT_ONCE, 0.1},
         {"a byte given by glenoulty_step, within a block", &within[0], PLAIN, BOARD, 4},
         {"a byte taken by glenoulty_step, within a block", &within[1], PLAIN, BOARD, 4},
     };
     printf("\nMany bytes in one call, and a byte by glenoulty_step. By glenoulty_give and glenoulty_take a block is one\n"
-           "call, on a core all blocks are one. C is event by event; against copies it is two plain copies of 512\n"
-           "bytes and the event of the last byte.\n\n"
+           "call, or eight are; on a core all blocks are one. C is event by event; against copies it is two plain copies\n"
+           "of 512 bytes and the event of the last byte.\n\n"
            "| row | C | proved | ratio | bar | |\n|---|---|---|---|---|---|\n");
     for (size_t i = 0; i < sizeof claims / sizeof claims[0]; i++) show_claim(&claims[i]);
 }

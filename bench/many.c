@@ -85,14 +85,15 @@ static size_t by_copies(const struct blocks *b) {
     return u.selected;
 }
 
-// A call for each block, as firmware makes it.
-static size_t by_calls(const struct blocks *b) {
+// A call for so many blocks, as firmware makes it; the last one for those that are left.
+static size_t by_calls(const struct blocks *b, size_t blocks) {
     static uint8_t record[GLENOULTY_SIZE];
     glenoulty_result r;
     run_board(record, &b->before);
-    for (size_t i = 0; i < b->length; i += BODY) {
-        if (b->given) glenoulty_give(record, sizeof record, TAPES, b->bytes + i, BODY, &r);
-        else glenoulty_take(record, sizeof record, TAPES, b->bytes + i, BODY, &r);
+    for (size_t i = 0; i < b->length; i += blocks * BODY) {
+        size_t left = b->length - i, n = left < blocks * BODY ? left : blocks * BODY;
+        if (b->given) glenoulty_give(record, sizeof record, TAPES, b->bytes + i, n, &r);
+        else glenoulty_take(record, sizeof record, TAPES, b->bytes + i, n, &r);
     }
     return record[1];
 }
@@ -107,7 +108,8 @@ size_t move_blocks(enum mover mover, const struct blocks *b) {
     switch (mover) {
     case EVENTS: return by_events(b);
     case COPIES: return by_copies(b);
-    case CALLS: return by_calls(b);
+    case CALLS: return by_calls(b, 1);
+    case EIGHTS: return by_calls(b, 8);
     default: return at_once(b);
     }
 }

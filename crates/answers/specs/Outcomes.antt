@@ -6,6 +6,7 @@ use mathlib.Core.List.{List}
 use lib.Dec.{leb}
 use Rattle.basis.specs.Choice.{pick}
 use Rattle.tape.specs.Record.{longest}
+use Rattle.rules.specs.declared.drive.Drive.{Drive}
 use Rattle.rules.specs.declared.phase.Phase.{Phase}
 use Rattle.rules.specs.declared.unit.Core.{Core}
 use Rattle.rules.specs.declared.event.Act.{Act}
@@ -18,7 +19,7 @@ use Rattle.rules.specs.declared.answer.Lines.{Lines}
 use Rattle.rules.specs.declared.answer.Turn.{Turn}
 use Rattle.rules.specs.Event.{eventOf}
 use Rattle.rules.specs.Lines.{linesOf}
-use Rattle.rules.specs.Refusal.{possible, inStep, slotAnswer, refusalBy}
+use Rattle.rules.specs.Refusal.{possibleDrive, possiblePhase, possible, inStep, slotAnswer, refusalBy}
 use Rattle.rules.specs.Step.{takenTurn, refusedTurn}
 use Rattle.rules.specs.Unit.{driveAt, movedTo}
 use Rattle.answers.specs.declared.looks.Seen.{Seen}
@@ -42,6 +43,8 @@ pub record OneOutcome : Type 0 where
   pub taken-place : (ph : Phase) (l : List ℕ) (r r′ : ℕ) → r ≡ takenPlace ph l → r′ ≡ takenPlace ph l → r ≡ r′
   pub octets-left : (ph : Phase) (l : List ℕ) (r r′ : ℕ) → r ≡ octetsLeft ph l → r′ ≡ octetsLeft ph l → r ≡ r′
   pub body : (l : List ℕ) (r r′ : ℕ) → r ≡ bodyOf l → r′ ≡ bodyOf l → r ≡ r′
+  pub possible-drive : (d : Drive) (r r′ : Bool) → r ≡ possibleDrive d → r′ ≡ possibleDrive d → r ≡ r′
+  pub possible-at : (ph : Phase) (d : Drive) (r r′ : Bool) → r ≡ possiblePhase ph (d .mode) → r′ ≡ possiblePhase ph (d .mode) → r ≡ r′
   pub possible : (c : Core) (r r′ : Bool) → r ≡ possible c → r′ ≡ possible c → r ≡ r′
   pub short : (a b c d : ℕ) (r r′ : Bool) → r ≡ shortBy a b c d → r′ ≡ shortBy a b c d → r ≡ r′
   pub in-step : (ph : Phase) (w g : Bool) (a : Act) (r r′ : Bool) → r ≡ inStep ph w g a → r′ ≡ inStep ph w g a → r ≡ r′

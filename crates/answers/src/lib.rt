@@ -16,6 +16,8 @@ pub use place::given_place;
 pub use place::octets_left;
 pub use place::taken_place;
 pub use possibility::possible;
+pub use possibility::possible_at;
+pub use possibility::possible_drive;
 pub use refusal::in_step;
 pub use refusal::refusal_by;
 pub use refusal::short;
@@ -30,7 +32,7 @@ pub use turn::moved_to;
 pub use turn::refuse;
 
 // The drives are 0 to 3.
-pub(crate) const LAST_DRIVE: u8 = 3;
+pub const LAST_DRIVE: u8 = 3;
 
 // The kind of a byte given by the host, and of one that it takes.
 pub const GIVEN: u8 = 0x02;

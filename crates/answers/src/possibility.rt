@@ -37,7 +37,7 @@ fn late_fits(mode: Mode, late: u8) -> bool
 }
 
 // A head above the longest tape is impossible.
-fn possible_drive(drive: Drive) -> bool
+pub fn possible_drive(drive: Drive) -> bool
     ensures { λ r. ⌜ r ≡ possibleDrive drive ⌝ }
 {
     let mode = drive.mode;
@@ -61,7 +61,7 @@ fn possible_phase(phase: Phase, mode: Mode) -> bool
 }
 
 // The same beside a drive's whole record.
-fn possible_at(phase: Phase, drive: Drive) -> bool
+pub fn possible_at(phase: Phase, drive: Drive) -> bool
     ensures { λ r. ⌜ r ≡ possiblePhase phase (drive .mode) ⌝ }
 {
     let mode = drive.mode;

@@ -12,7 +12,7 @@ use Rattle.basis.specs.Placed.{placed}
 use Rattle.rules.specs.declared.answer.Answer.the-variants.{Taken}
 use Rattle.rules.specs.Answer.{rowOf}
 use Rattle.rules.specs.Phase.{reportSize}
-use Rattle.rules.specs.Unit.{tapeAt}
+use Rattle.rules.specs.Unit.{driveAt, tapeAt}
 use Rattle.rules.specs.Refusal.{possible, short}
 use Rattle.rules.specs.Step.{staged, Steps}
 use Rattle.answers.specs.Moved.{movedOn}
@@ -58,19 +58,19 @@ octets-six l = refl
 
 -- a byte within a block, staged and its phase written where they stand, is the step on what the buffer holds
 pub byte-served : (l : List ℕ) (t : Tapes) (event : List ℕ) (i : Inside) (g out l′ : List ℕ) → Octets l → isRecord l ≡ true
-    → i ≡ insideOf (coreOf l) (possible (coreOf l) && short (lentWith (stagingOf l) t)) (tapeAt (lentWith (stagingOf l) t) (coreOf l .port .selected)) event
+    → (possible (coreOf l) && short (lentWith (stagingOf l) t)) ≡ true
+    → i ≡ insideOf (coreOf l .port .phase) (driveAt (coreOf l) (coreOf l .port .selected)) (tapeAt (lentWith (stagingOf l) t) (coreOf l .port .selected)) event
     → i .there ≡ true → g ≡ staged (coreOf l .port .phase) (i .act) (stagingOf l) → length g ≡ bodySize
     → out ≡ rowOf Taken .number ∷ flag (i .given) ∷ i .byte ∷ linesBytes (record { ready = false; exception = false; direction = i .given })
-    → l′ ≡ placed (putMid 146 512 l g) phaseAt (phaseBytes (i .phase)) → Served l t event out l′ t
-byte-served l t event i g out l′ small so found there put long result left =
+    → l′ ≡ placed (take 146 l ++ g) phaseAt (phaseBytes (i .phase)) → Served l t event out l′ t
+byte-served l t event i g out l′ small so calm found there put long result left =
     record {
       turn = movedOn (coreOf l) (i .phase) (i .given) (i .byte) (i .given);
       staging = g;
       steps =
           subst (λ (x : List ℕ). Steps (coreOf l) (lentWith (stagingOf l) t) event (movedOn (coreOf l) (i .phase) (i .given) (i .byte) (i .given)) (lentWith x t))
-          (sym put) (inside-steps (coreOf l) (lentWith (stagingOf l) t) event i found there);
+          (sym put) (inside-steps (coreOf l) (lentWith (stagingOf l) t) event i calm found there);
       result = result;
-      left =
-          left ∙ ap (λ (x : List ℕ). placed x phaseAt (phaseBytes (i .phase))) (given-back l g (record-long l so)) ∙ phase-moved l g (i .phase) small so long;
+      left = left ∙ phase-moved l g (i .phase) small so long;
       sized = record { octets = octets-six l; staging = long };
     }

@@ -1,6 +1,8 @@
 // The unit for C and Rust: one event step on a record that lies as bytes in a lent buffer.
 mod exports;
+mod judge;
 mod result;
+mod serve;
 
 pub use exports::glenoulty_fresh;
 pub use exports::glenoulty_give;

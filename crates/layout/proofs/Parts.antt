@@ -1,20 +1,25 @@
 -- What the code's arrays and parts come to.
 use Prim.Native.Nat.{ℕ, _+_, _-_, _≤_}
 use mathlib.Core.Path.{_≡_, refl, sym, ap, _∙_}
+use mathlib.Core.Bool.{Bool, true, false}
 use mathlib.Core.List.{List, [], _∷_, _++_, append-nil, append-assoc}
 use native.Mathlib.Omega.{arith}
 use lib.ListN.{length, getD, take, drop, length-drop, length-append, drop-of-length-le}
+use lib.Dec.{eqb}
 use lib.Seq.{take-length, length-take-le, take-all, take-at, drop-at, drop-drop}
 use Rattle.rules.specs.declared.drive.Drive.{Drive}
 use Rattle.rules.specs.declared.unit.Port.{Port}
 use Rattle.rules.specs.declared.unit.Core.{Core}
 use Rattle.rules.specs.Phase.{reportSize}
+use Rattle.rules.specs.Unit.{oneOf, driveAt}
+use Rattle.rules.proofs.Places.{one-holds}
+use Rattle.basis.specs.Choice.{pick}
 use Rattle.basis.proofs.Placing.{each, each-is}
 use Rattle.layout.specs.Number.{two, four, eight}
 use Rattle.basis.specs.Placed.{placed}
 use Rattle.layout.specs.Written.{flag, unused, modeByte, latchedBytes, driveBytes, portBytes, unit, unitBytes}
 use Rattle.layout.specs.Written.{portSize, driveSize, recordSize}
-use Rattle.layout.specs.Read.{stretch, stagingOf}
+use Rattle.layout.specs.Read.{stretch, driveOf, coreOf, stagingOf}
 use Rattle.layout.proofs.Stretch.{stretch-end}
 
 -- a part copied over an array of its size is that part
@@ -27,6 +32,23 @@ part-copied l at end n z r e size fits is =
     let part : length (take n (drop at l)) ≡ n = length-take-le n (drop at l) (omega (arith, e, fits, length-drop at l)) in
     let none : drop (length (take n (drop at l))) z ≡ [] = drop-of-length-le z {i = length (take n (drop at l))} (omega (arith, part, size)) in
     (rw (k) at is) ∙ rw (take-length (take n (drop at l)), none, append-nil)
+
+-- a drive by its number: it ends inside the record, and its stretch is read as it
+pub drive-inside : (i : ℕ) → oneOf i 18 50 82 114 ≤ 114
+drive-inside = one-holds (λ n. n ≤ 114) (omega arith) (omega arith) (omega arith) (omega arith)
+
+pub drive-found : (l : List ℕ) (i : ℕ) → driveOf (stretch (oneOf i 18 50 82 114) driveSize l) ≡ driveAt (coreOf l) i
+unfolding oneOf pick coreOf
+drive-found l i = go (eqb i 0) (eqb i 1) (eqb i 2)
+  where
+    at : ℕ → Drive
+    at n = driveOf (stretch n driveSize l)
+
+    go : (p q r : Bool) → at (pick p 18 (pick q 50 (pick r 82 114))) ≡ pick p (at 18) (pick q (at 50) (pick r (at 82) (at 114)))
+    go true q r = refl
+    go false true r = refl
+    go false false true = refl
+    go false false false = refl
 
 -- six octets are their list
 pub six : (o : List ℕ) → length o ≡ 6 → getD o 0 0 ∷ getD o 1 0 ∷ getD o 2 0 ∷ getD o 3 0 ∷ getD o 4 0 ∷ getD o 5 0 ∷ [] ≡ o

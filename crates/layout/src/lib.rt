@@ -4,7 +4,9 @@ mod read;
 mod write;
 
 pub use read::core_of;
+pub use read::drive_in;
 pub use read::is_record;
+pub use read::port_in;
 pub use write::flag;
 pub use write::write_core;
 pub use write::write_phase;
@@ -13,8 +15,10 @@ pub use write::write_record;
 // The first byte of each record.
 pub(crate) const VERSION: u8 = 2;
 
-// The bytes of the port and of a drive.
+// The bytes of the port, of the phase in it, and of a drive.
 pub(crate) const PORT: usize = 18;
+
+pub(crate) const PHASE_BYTES: usize = 9;
 
 pub(crate) const DRIVE: usize = 32;
 

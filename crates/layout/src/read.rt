@@ -1,6 +1,7 @@
 // Bytes read as a record.
 ghost use mathlib.Core.Path.{_≡_};
 ghost use Prim.Native.Nat.{_+_, _≤_};
+ghost use Rattle.rules.specs.Unit.{oneOf, driveAt};
 ghost use Rattle.layout.specs.Number.{eightAt};
 ghost use Rattle.layout.specs.Written.{recordSize, driveSize, portSize};
 ghost use Rattle.layout.specs.Read.{stretch, isPhase, isLatched, leavesRoom, isDrive, isPort, isRecord};
@@ -179,12 +180,40 @@ pub fn is_record(buffer: &[u8]) -> bool
         & (is_drive(&drive0) & (is_drive(&drive1) & (is_drive(&drive2) & is_drive(&drive3))))
 }
 
-// All else of a record: the port and four drives.
+// The port of a record.
+pub fn port_in(buffer: &[u8]) -> Port
+    requires { do ⌜ (← ⟦buffer.len()⟧) ≡ recordSize ⌝ }
+    ensures { λ r. ⌜ r ≡ coreOf (now (buffer .entry)) .port ⌝ }
+{
+    port_of(&port_part(buffer))
+}
+
+// Where a drive begins.
+fn drive_place(i: u8) -> usize
+    ensures { λ r. ⌜ r ≡ oneOf i 18 50 82 114 ⌝ }
+{
+    match i {
+        0 => DRIVE_0,
+        1 => DRIVE_1,
+        2 => DRIVE_2,
+        _ => DRIVE_3,
+    }
+}
+
+// A drive of a record by its number.
+pub fn drive_in(buffer: &[u8], i: u8) -> Drive
+    requires { do ⌜ (← ⟦buffer.len()⟧) ≡ recordSize ⌝ }
+    ensures { λ r. ⌜ r ≡ driveAt (coreOf (now (buffer .entry))) i ⌝ }
+{
+    drive_of(&drive_part(buffer, drive_place(i)))
+}
+
+// All of a record but its staging block: the port and four drives.
 pub fn core_of(buffer: &[u8]) -> Core
     requires { do ⌜ (← ⟦buffer.len()⟧) ≡ recordSize ⌝ }
     ensures { λ r. ⌜ r ≡ coreOf (now (buffer .entry)) ⌝ }
 {
-    let port = port_of(&port_part(buffer));
+    let port = port_in(buffer);
     let drive0 = drive_of(&drive_part(buffer, DRIVE_0));
     let drive1 = drive_of(&drive_part(buffer, DRIVE_1));
     let drive2 = drive_of(&drive_part(buffer, DRIVE_2));

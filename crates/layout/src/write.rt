@@ -13,6 +13,7 @@ use crate::DRIVE_1;
 use crate::DRIVE_2;
 use crate::DRIVE_3;
 use crate::PHASE;
+use crate::PHASE_BYTES;
 use crate::PORT;
 use crate::STAGING;
 use crate::VERSION;
@@ -106,16 +107,11 @@ fn drive_bytes(drive: Drive) -> [u8; DRIVE]
     ]
 }
 
-fn port_bytes(port: Port) -> [u8; PORT]
-    ensures { λ r. ⌜ r ≡ portBytes port ⌝ }
+fn phase_bytes(phase: Phase) -> [u8; PHASE_BYTES]
+    ensures { λ r. ⌜ r ≡ phaseBytes phase ⌝ }
 {
-    let phase = port.phase;
     let n = eight(phase.how_far());
-    let o = port.octets;
     [
-        VERSION,
-        port.selected,
-        flag(port.online),
         phase.which(),
         n[0],
         n[1],
@@ -125,6 +121,28 @@ fn port_bytes(port: Port) -> [u8; PORT]
         n[5],
         n[6],
         n[7],
+    ]
+}
+
+fn port_bytes(port: Port) -> [u8; PORT]
+    ensures { λ r. ⌜ r ≡ portBytes port ⌝ }
+{
+    let phase = port.phase;
+    let p = phase_bytes(phase);
+    let o = port.octets;
+    [
+        VERSION,
+        port.selected,
+        flag(port.online),
+        p[0],
+        p[1],
+        p[2],
+        p[3],
+        p[4],
+        p[5],
+        p[6],
+        p[7],
+        p[8],
         o[0],
         o[1],
         o[2],
@@ -179,17 +197,6 @@ pub fn write_phase(buffer: &mut [u8], phase: Phase)
     requires { do ⌜ (← ⟦buffer.len()⟧) ≡ recordSize ⌝ }
     ensures { λ _. ⌜ now (buffer .exit) ≡ placed (now (buffer .entry)) phaseAt (phaseBytes phase) ⌝ }
 {
-    let n = eight(phase.how_far());
-    let bytes = [
-        phase.which(),
-        n[0],
-        n[1],
-        n[2],
-        n[3],
-        n[4],
-        n[5],
-        n[6],
-        n[7],
-    ];
+    let bytes = phase_bytes(phase);
     put(buffer, PHASE, &bytes);
 }

@@ -2,7 +2,7 @@
 ghost use mathlib.Core.Path.{_≡_};
 ghost use lib.ListN.{length};
 ghost use Rattle.tape.specs.Record.{bodySize};
-ghost use Rattle.rules.specs.Unit.{lent};
+ghost use Rattle.rules.specs.Unit.{lent, freshCore};
 ghost use Rattle.rules.specs.Ran.{RunsTo};
 ghost use Rattle.unit.specs.Handover.{GivesOver, TakesOver};
 ghost use Rattle.pace.specs.Pairs.{pairsOf, Paced, PacedThen};
@@ -17,9 +17,8 @@ use unit::take_bytes;
 // What a fresh staging block holds.
 const FRESH: u8 = 0;
 
-// A core over pairs of bytes, each an event of its kind's size.
+// A fresh core over pairs of bytes, each an event of its kind's size.
 fn run_core(
-    core: Core,
     staging: &mut [u8],
     tape0: &mut [u8],
     tape1: &mut [u8],
@@ -28,12 +27,12 @@ fn run_core(
     pairs: &[u8],
 ) -> Core
     requires { ⌜ length (now staging) ≡ bodySize ⌝ }
-    ensures { λ r. ⌜ RunsTo core
+    ensures { λ r. ⌜ RunsTo freshCore
         (lent (now (staging .entry)) (now (tape0 .entry)) (now (tape1 .entry)) (now (tape2 .entry)) (now (tape3 .entry)))
         (pairsOf (now (pairs .entry))) r
         (lent (now (staging .exit)) (now (tape0 .exit)) (now (tape1 .exit)) (now (tape2 .exit)) (now (tape3 .exit))) ⌝ }
 {
-    let mut after = core;
+    let mut after = Core::fresh();
     let mut i = 0;
     while i + 1 < pairs.len() {
         let end = i + kind_size(pairs[i]);
@@ -44,7 +43,7 @@ fn run_core(
     after
 }
 
-// From a fresh core. What is handed back is the number of the selected drive.
+// The run on a core. What is handed back is the number of the selected drive.
 #[no_mangle]
 pub extern "C" fn pace_core(
     tape0: &mut [u8],
@@ -57,15 +56,7 @@ pub extern "C" fn pace_core(
         (now (tape0 .exit)) (now (tape1 .exit)) (now (tape2 .exit)) (now (tape3 .exit)) ⌝ }
 {
     let mut staging = [FRESH; BODY];
-    let after = run_core(
-        Core::fresh(),
-        &mut staging,
-        tape0,
-        tape1,
-        tape2,
-        tape3,
-        pairs,
-    );
+    let after = run_core(&mut staging, tape0, tape1, tape2, tape3, pairs);
     after.port.selected
 }
 
@@ -84,15 +75,7 @@ pub extern "C" fn pace_give(
         (now (tape0 .exit)) (now (tape1 .exit)) (now (tape2 .exit)) (now (tape3 .exit)) ⌝ }
 {
     let mut staging = [FRESH; BODY];
-    let after = run_core(
-        Core::fresh(),
-        &mut staging,
-        tape0,
-        tape1,
-        tape2,
-        tape3,
-        pairs,
-    );
+    let after = run_core(&mut staging, tape0, tape1, tape2, tape3, pairs);
     let handed = give_bytes(after, &mut staging, tape0, tape1, tape2, tape3, bytes);
     handed.last.core.port.selected
 }
@@ -112,15 +95,7 @@ pub extern "C" fn pace_take(
         (now (tape0 .exit)) (now (tape1 .exit)) (now (tape2 .exit)) (now (tape3 .exit)) ⌝ }
 {
     let mut staging = [FRESH; BODY];
-    let after = run_core(
-        Core::fresh(),
-        &mut staging,
-        tape0,
-        tape1,
-        tape2,
-        tape3,
-        pairs,
-    );
+    let after = run_core(&mut staging, tape0, tape1, tape2, tape3, pairs);
     let handed = take_bytes(after, &mut staging, tape0, tape1, tape2, tape3, bytes);
     handed.last.core.port.selected
 }

@@ -31,7 +31,7 @@ use Rattle.rules.specs.Effect.{hands}
 use Rattle.rules.specs.Bytes.{handed, octetPlace, afterOctet, octetTaken, byteTaken}
 use Rattle.rules.specs.Event.{bareEvent, bodiedEvent, eventOf}
 use Rattle.rules.specs.Step.{staged, stagedIn, seatOf, act, stepped, done, takenTurn, landed, Steps}
-use Rattle.basis.proofs.Choosing.{both, choice-by}
+use Rattle.basis.proofs.Choosing.{both, join, choice-by}
 use Rattle.rules.proofs.Places.{put-back, tape-back}
 use Rattle.rules.proofs.Handing.{takenAt, may-take, taken-is}
 use Rattle.port.proofs.Whole.{is-block}
@@ -240,27 +240,27 @@ module _ (c : Core) (l : Lent) (event : List ℕ) (r : Turn) (p s : Bool) (ok : 
       settles c l event (calm so) r l (Own Take) (there .1) (ap (λ (x : Turn). stepped x l) (turn ∙ ap (takenTurn false true b) moved) ∙ moves)
 
 -- what an event within a block comes to is the book's step
-module _ (c : Core) (l : Lent) (event : List ℕ) where
+module _ (c : Core) (l : Lent) (event : List ℕ) (calm : (possible c && short l) ≡ true) where
   abbrev StepsBy : Inside → Type 0
   StepsBy i = i .there ≡ true → Steps c l event (movedOn c (i .phase) (i .given) (i .byte) (i .given)) (stagedIn c (i .act) l)
 
-  given-inside : 0 < givenPlace (c .port .phase) event → StepsBy (givenInside c (possible c && short l) event (givenPlace (c .port .phase) event))
-  given-inside some =
-      choice-by StepsBy _
-      (λ so there. given-steps c l event _ (possible c) (short l) refl refl _ _ (lookOf (driveAt c (c .port .selected))) refl some refl so refl refl)
-      (λ so there. absurd (false≢true there))
+  abbrev Here : Drive
+  Here = driveAt c (c .port .selected)
+
+  given-inside : 0 < givenPlace (c .port .phase) event → writes Here ≡ true → StepsBy (givenInside event (givenPlace (c .port .phase) event))
+  given-inside some writing there =
+      given-steps c l event _ (possible c) (short l) refl refl _ _ (lookOf Here) refl some refl (join _ _ calm writing) refl refl
 
   taken-inside : 0 < takenPlace (c .port .phase) event
-      → StepsBy (takenInside (possible c && short l) (takenPlace (c .port .phase) event)
-      (nextOf (driveAt c (c .port .selected)) (tapeAt l (c .port .selected)) (takenPlace (c .port .phase) event)))
+      → StepsBy (takenInside (takenPlace (c .port .phase) event) (nextOf Here (tapeAt l (c .port .selected)) (takenPlace (c .port .phase) event)))
   taken-inside some =
-      choice-by StepsBy _ (λ so there. taken-steps c l event _ (possible c) (short l) refl refl _ _ refl some refl so refl)
+      choice-by StepsBy _ (λ so there. taken-steps c l event _ (possible c) (short l) refl refl _ _ refl some refl (join _ _ calm so) refl)
       (λ so there. absurd (false≢true there))
 
 pub inside-steps : InsideSteps
 unfolding insideOf
-inside-steps c l event i is there =
-    let P : Inside → Type 0 = StepsBy c l event in
+inside-steps c l event i calm is there =
+    let P : Inside → Type 0 = StepsBy c l event calm in
     let none : P noInside = λ no. absurd (false≢true no) in
-    subst P (sym is) (choice-by P _ (λ so. given-inside c l event (ltb-true _ _ so))
-    (λ so. choice-by P _ (λ more. taken-inside c l event (ltb-true _ _ more)) (λ more. none))) there
+    subst P (sym is) (choice-by P _ (λ so. let free = both _ _ so in given-inside c l event calm (ltb-true _ _ (free .0)) (free .1))
+    (λ so. choice-by P _ (λ more. taken-inside c l event calm (ltb-true _ _ more)) (λ more. none))) there

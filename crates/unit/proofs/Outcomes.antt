@@ -32,7 +32,7 @@ one-outcome =
             ap₂ outcome (e .0) (ap (λ (x : Lent). x .staging) g),
             (ap (λ (x : Lent). x .tape0) g, ap (λ (x : Lent). x .tape1) g, ap (λ (x : Lent). x .tape2) g, ap (λ (x : Lent). x .tape3) g),
           );
-      within-block = λ c calm t event r r′ p q. same p q;
+      within-block = λ ph d t event r r′ p q. same p q;
       give-bytes = λ c l bytes r r′ l′ l″ p q. let e = same p q in (ap handed e, ap (λ (x : Over). x .lent) e);
       take-bytes = λ c l out r r′ l′ l″ out′ out″ p q.
           let e = same p q in

@@ -1,8 +1,9 @@
 -- Each public contract leaves one outcome: any two that it allows are equal.
 use Prim.Native.Nat.{ℕ}
 use mathlib.Core.Path.{_≡_}
-use mathlib.Core.Bool.{Bool}
 use mathlib.Core.List.{List}
+use Rattle.rules.specs.declared.drive.Drive.{Drive}
+use Rattle.rules.specs.declared.phase.Phase.{Phase}
 use Rattle.rules.specs.declared.unit.Core.{Core}
 use Rattle.rules.specs.declared.answer.Outcome.{Outcome}
 use Rattle.rules.specs.Unit.{Lent, putStaging}
@@ -24,8 +25,8 @@ pub record OneOutcome : Type 0 where
   pub step : (c : Core) (l : Lent) (event : List ℕ) (r r′ : Outcome) (l′ l″ : Lent)
       → Steps c l event (turnOfOutcome r) (putStaging l′ (r .unit .staging)) → Steps c l event (turnOfOutcome r′) (putStaging l″ (r′ .unit .staging))
       → (r ≡ r′) × SameTapes l′ l″
-  pub within-block : (c : Core) (calm : Bool) (t event : List ℕ) (r r′ : Inside)
-      → r ≡ insideOf c calm t event → r′ ≡ insideOf c calm t event → r ≡ r′
+  pub within-block : (ph : Phase) (d : Drive) (t event : List ℕ) (r r′ : Inside)
+      → r ≡ insideOf ph d t event → r′ ≡ insideOf ph d t event → r ≡ r′
   pub give-bytes : (c : Core) (l : Lent) (bytes : List ℕ) (r r′ : Handed) (l′ l″ : Lent)
       → GivesOver c l bytes r l′ → GivesOver c l bytes r′ l″ → (r ≡ r′) × (l′ ≡ l″)
   pub take-bytes : (c : Core) (l : Lent) (out : List ℕ) (r r′ : Handed) (l′ l″ : Lent) (out′ out″ : List ℕ)

@@ -41,27 +41,26 @@ inBlock a ph given byte = record { there = true; act = a; phase = ph; given = gi
 abbrev pub noInside : Inside
 noInside = record { there = false; act = Take; phase = Rest; given = false; byte = 0 }
 
--- Given to a drive that writes, or taken from one that has a byte there; `calm` says that the record is possible and no tape too long.
-abbrev pub givenInside : Core → Bool → List ℕ → ℕ → Inside
-givenInside c calm event n =
-    pick (calm && writes (driveAt c (c .port .selected))) (inBlock (Give (bodyOf event)) (Taking (n + 1)) false 0) noInside
+-- Given to a drive that writes, or taken from one that has a byte there.
+abbrev pub givenInside : List ℕ → ℕ → Inside
+givenInside event n = inBlock (Give (bodyOf event)) (Taking (n + 1)) false 0
 
-abbrev pub takenInside : Bool → ℕ → Next → Inside
-takenInside calm n next = pick (calm && next .there) (inBlock Take (Giving (n + 1)) true (next .byte)) noInside
+abbrev pub takenInside : ℕ → Next → Inside
+takenInside n next = pick (next .there) (inBlock Take (Giving (n + 1)) true (next .byte)) noInside
 
-abbrev pub nextInside : Core → Bool → List ℕ → ℕ → Inside
-nextInside c calm t n = pick (ltb 0 n) (takenInside calm n (nextOf (driveAt c (c .port .selected)) t n)) noInside
+abbrev pub nextInside : Drive → List ℕ → ℕ → Inside
+nextInside d t n = pick (ltb 0 n) (takenInside n (nextOf d t n)) noInside
 
-unfoldable pub insideOf : Core → Bool → List ℕ → List ℕ → Inside
-insideOf c calm t event =
-    pick (ltb 0 (givenPlace (c .port .phase) event)) (givenInside c calm event (givenPlace (c .port .phase) event))
-    (nextInside c calm t (takenPlace (c .port .phase) event))
+unfoldable pub insideOf : Phase → Drive → List ℕ → List ℕ → Inside
+insideOf ph d t event =
+    pick (ltb 0 (givenPlace ph event) && writes d) (givenInside event (givenPlace ph event)) (nextInside d t (takenPlace ph event))
 
--- IT IS THE BOOK'S STEP, with a byte given in the staging block.
+-- IT IS THE BOOK'S STEP in a possible record with short tapes, with a byte given in the staging block.
 abbrev pub InsideSteps : Type 0
 InsideSteps =
-    (c : Core) (l : Lent) (event : List ℕ) (i : Inside) → i ≡ insideOf c (possible c && short l) (tapeAt l (c .port .selected)) event
-    → i .there ≡ true → Steps c l event (movedOn c (i .phase) (i .given) (i .byte) (i .given)) (stagedIn c (i .act) l)
+    (c : Core) (l : Lent) (event : List ℕ) (i : Inside) → (possible c && short l) ≡ true
+    → i ≡ insideOf (c .port .phase) (driveAt c (c .port .selected)) (tapeAt l (c .port .selected)) event → i .there ≡ true
+    → Steps c l event (movedOn c (i .phase) (i .given) (i .byte) (i .given)) (stagedIn c (i .act) l)
 
 -- AN ACT THAT MOVES THE PHASE ALONE, in a possible record with short tapes, is settled by the turn that says so:
 -- the law of all that is looked for first.

@@ -5,10 +5,9 @@ ghost use lib.ListN.{length, getD};
 ghost use Rattle.tape.specs.Record.{blockSize};
 ghost use Rattle.rules.specs.Phase.{lastPlace};
 ghost use Rattle.rules.specs.Unit.{oneOf, driveAt};
-ghost use Rattle.unit.specs.Within.{nextOf, inBlock, noInside, insideOf};
+ghost use Rattle.unit.specs.Within.{nextOf, inBlock, noInside, takenInside, insideOf};
 use answers::body;
 use answers::given_place;
-use answers::look;
 use answers::taken_place;
 use port::is_block;
 use rules::Act;
@@ -82,6 +81,27 @@ pub(crate) fn next_byte(
     }
 }
 
+// The same of a drive that stands apart from its core.
+fn next_on(
+    drive: Drive,
+    i: u8,
+    tape0: &[u8],
+    tape1: &[u8],
+    tape2: &[u8],
+    tape3: &[u8],
+    n: usize,
+) -> Next
+    requires { ⌜ n < lastPlace ⌝ }
+    ensures { λ r. ⌜ r ≡ nextOf drive (oneOf i (now (tape0 .entry)) (now (tape1 .entry)) (now (tape2 .entry)) (now (tape3 .entry))) n ⌝ }
+{
+    match i {
+        0 => next_of(drive, tape0, n),
+        1 => next_of(drive, tape1, n),
+        2 => next_of(drive, tape2, n),
+        _ => next_of(drive, tape3, n),
+    }
+}
+
 fn in_block(act: Act, phase: Phase, given: bool, byte: u8) -> Inside
     ensures { λ r. ⌜ r ≡ inBlock act phase given byte ⌝ }
 {
@@ -106,36 +126,39 @@ fn no_inside() -> Inside
     }
 }
 
-// Looked for first, where the record is possible and no tape too long.
+// Byte n of a block, taken where there is one.
+fn taken_inside(n: usize, next: Next) -> Inside
+    requires { ⌜ n < lastPlace ⌝ }
+    ensures { λ r. ⌜ r ≡ takenInside n next ⌝ }
+{
+    if next.there {
+        return in_block(Act::Take, Phase::Giving(n + 1), true, next.byte);
+    }
+    no_inside()
+}
+
+// What an event comes to in a phase, on the drive that is selected, if it is a byte within a block.
 pub fn within_block(
-    core: Core,
-    calm: bool,
+    phase: Phase,
+    drive: Drive,
+    selected: u8,
     tape0: &[u8],
     tape1: &[u8],
     tape2: &[u8],
     tape3: &[u8],
     event: &[u8],
 ) -> Inside
-    ensures { λ r. ⌜ r ≡ insideOf core calm
-        (oneOf (core .port .selected) (now (tape0 .entry)) (now (tape1 .entry)) (now (tape2 .entry)) (now (tape3 .entry)))
+    ensures { λ r. ⌜ r ≡ insideOf phase drive
+        (oneOf selected (now (tape0 .entry)) (now (tape1 .entry)) (now (tape2 .entry)) (now (tape3 .entry)))
         (now (event .entry)) ⌝ }
 {
-    let port = core.port;
-    let phase = port.phase;
     let n = given_place(phase, event);
-    if 0 < n {
-        if calm & look(core, port.selected).writes {
-            return in_block(Act::Give(body(event)), Phase::Taking(n + 1), false, 0);
-        }
-        return no_inside();
+    if (0 < n) & drive.writes() {
+        return in_block(Act::Give(body(event)), Phase::Taking(n + 1), false, 0);
     }
-    let m = taken_place(phase, event);
-    if 0 < m {
-        let next = next_byte(core, tape0, tape1, tape2, tape3, m);
-        if calm & next.there {
-            return in_block(Act::Take, Phase::Giving(m + 1), true, next.byte);
-        }
-        return no_inside();
+    let n = taken_place(phase, event);
+    if 0 < n {
+        return taken_inside(n, next_on(drive, selected, tape0, tape1, tape2, tape3, n));
     }
     no_inside()
 }

@@ -4,9 +4,6 @@ use borrow.Author.Needs.{needs}
 use Rattle.pace.proofs.pace_core.Statement.{statement}
 use Rattle.pace.proofs.pace_core.Tie as tie
 
-fresh-requires : tie.Need-fresh-requires
-fresh-requires c κs = search needs
-
 slice-aggregate-run-core : tie.Need-slice-aggregate-run-core
 slice-aggregate-run-core c = search needs
 
@@ -28,14 +25,13 @@ same-length-4 c = search needs
 returns : tie.Need-returns
 returns c =
     let c9 = c .before .before .before .before .before .before .before .before .before in
-    let a = c9 .before .before .before .before .before .before .before .before .before .before .before .before .args in
-    paced-of _ _ _ _ (a .pairs .now) _ _ _ _ _ _ (rw (c9 .before .before .before .before .before .before .fresh .ensures) at (c9 .run-core .ensures))
+    let a = c9 .before .before .before .before .before .before .before .before .before .before .before .args in
+    paced-of _ _ _ _ (a .pairs .now) _ _ _ _ _ _ (c9 .run-core .ensures)
 
 pub pace-core-spec : {M : Type 1} → statement M
 pace-core-spec =
     tie.close
     (tie.spec
-    fresh-requires
     slice-aggregate-run-core
     run-core-requires
     same-length

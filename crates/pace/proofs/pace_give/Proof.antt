@@ -9,9 +9,6 @@ use borrow.Author.Needs.{needs}
 use Rattle.pace.proofs.pace_give.Statement.{statement}
 use Rattle.pace.proofs.pace_give.Tie as tie
 
-fresh-requires : tie.Need-fresh-requires
-fresh-requires c κs = search needs
-
 slice-aggregate-run-core : tie.Need-slice-aggregate-run-core
 slice-aggregate-run-core c = search needs
 
@@ -40,12 +37,11 @@ returns : tie.Need-returns
 returns c =
     let c9 = c .before .before .before .before .before .before .before .before .before in
     let c24 = c9 .before .before .before .before .before .before .before .before .before .before .before .before .before .before .before in
-    let a = c24 .before .before .before .before .before .before .before .before .before .before .before .before .before .args in
-    let ran = rw (c24 .before .before .before .before .before .before .fresh .ensures) at (c24 .run-core .ensures) in
+    let a = c24 .before .before .before .before .before .before .before .before .before .before .before .before .args in
     record {
       handed = c9 .give-bytes .result;
       staging = c9 .give-bytes .last .1 .0;
-      is = then-called (λ (k : Core) (l : Lent) (h : Handed) (l′ : Lent). GivesOver k l (a .bytes .now) h l′) _ _ _ _ _ ran (c9 .give-bytes .ensures);
+      is = then-called (λ (k : Core) (l : Lent) (h : Handed) (l′ : Lent). GivesOver k l (a .bytes .now) h l′) _ _ _ _ _ (c24 .run-core .ensures) (c9 .give-bytes .ensures);
       selected = refl;
     }
 
@@ -53,7 +49,6 @@ pub pace-give-spec : {M : Type 1} → statement M
 pace-give-spec =
     tie.close
     (tie.spec
-    fresh-requires
     slice-aggregate-run-core
     run-core-requires
     slice-aggregate-give-bytes

@@ -9,9 +9,6 @@ use borrow.Author.Needs.{needs}
 use Rattle.pace.proofs.pace_take.Statement.{statement}
 use Rattle.pace.proofs.pace_take.Tie as tie
 
-fresh-requires : tie.Need-fresh-requires
-fresh-requires c κs = search needs
-
 slice-aggregate-run-core : tie.Need-slice-aggregate-run-core
 slice-aggregate-run-core c = search needs
 
@@ -27,7 +24,7 @@ take-bytes-requires c κs = search needs
 same-length : tie.Need-same-length
 same-length c =
     let c11 = c .before .before .before .before .before .before .before .before .before .before .before in
-    c11 .take-bytes .kept .1 .1 .0 ∙ c11 .before .before .before .before .before .before .before .before .before .before .before .before .before .before .before .before .run-core .kept .1 .1 .0
+    c11 .take-bytes .kept .1 .1 .0 ∙ c11 .before .before .before .before .before .before .before .before .before .before .before .before .before .before .before .before .run-core .kept .1 .0
 
 same-length-2 : tie.Need-same-length-2
 same-length-2 c = search needs
@@ -45,12 +42,11 @@ returns : tie.Need-returns
 returns c =
     let c11 = c .before .before .before .before .before .before .before .before .before .before .before in
     let c27 = c11 .before .before .before .before .before .before .before .before .before .before .before .before .before .before .before .before in
-    let a = c27 .before .before .before .before .before .before .before .before .before .before .before .before .before .args in
-    let ran = rw (c27 .before .before .before .before .before .before .fresh .ensures) at (c27 .run-core .ensures) in
+    let a = c27 .before .before .before .before .before .before .before .before .before .before .before .before .args in
     record {
       handed = c11 .take-bytes .result;
       staging = c11 .take-bytes .last .1 .0;
-      is = then-called (λ (k : Core) (l : Lent) (h : Handed) (l′ : Lent). TakesOver k l (a .bytes .now) h l′ (c11 .take-bytes .last .1 .1 .1 .1 .1 .1 .0)) _ _ _ _ _ ran (c11 .take-bytes .ensures);
+      is = then-called (λ (k : Core) (l : Lent) (h : Handed) (l′ : Lent). TakesOver k l (a .bytes .now) h l′ (c11 .take-bytes .last .1 .1 .1 .1 .1 .1 .0)) _ _ _ _ _ (c27 .run-core .ensures) (c11 .take-bytes .ensures);
       selected = refl;
     }
 
@@ -58,7 +54,6 @@ pub pace-take-spec : {M : Type 1} → statement M
 pace-take-spec =
     tie.close
     (tie.spec
-    fresh-requires
     slice-aggregate-run-core
     run-core-requires
     slice-aggregate-take-bytes

@@ -20,11 +20,14 @@ Inv-loop staging₀ tape0₀ tape1₀ tape2₀ tape3₀ pairs after₀ i₀ stag
 abbrev μ-loop : tie.MeasureT-loop
 μ-loop staging₀ tape0₀ tape1₀ tape2₀ tape3₀ pairs after₀ i₀ staging tape0 tape1 tape2 tape3 after i = length pairs - i
 
+fresh-requires : tie.Need-fresh-requires Inv-loop μ-loop
+fresh-requires c κs = search needs
+
 loop-holds : tie.Need-loop-holds Inv-loop μ-loop
 loop-holds c = (loop-laws .begins _ _ _, (omega arith, refl))
 
 add-loop : tie.Need-add-loop Inv-loop μ-loop
-add-loop c = omega (arith, c .loop .inv .1 .0, c .before .before .before .before .before .before .before .good)
+add-loop c = omega (arith, c .loop .inv .1 .0, c .before .before .before .before .before .before .before .before .good)
 
 shared-slice-read-kind-size : tie.Need-shared-slice-read-kind-size Inv-loop μ-loop
 shared-slice-read-kind-size c = search needs
@@ -33,7 +36,7 @@ kind-size-requires : tie.Need-kind-size-requires Inv-loop μ-loop
 kind-size-requires c κs = search needs
 
 add-end : tie.Need-add-end Inv-loop μ-loop
-add-end c = omega (arith, c .kind-size .ensures .1, c .before .before .loop-test .taken, c .before .before .before .before .before .before .before .before .before .before .good)
+add-end c = omega (arith, c .kind-size .ensures .1, c .before .before .loop-test .taken, c .before .before .before .before .before .before .before .before .before .before .before .good)
 
 sub-step-lent : tie.Need-sub-step-lent Inv-loop μ-loop
 sub-step-lent c = search needs
@@ -45,12 +48,12 @@ part-step-lent-end : tie.Need-part-step-lent-end Inv-loop μ-loop
 part-step-lent-end c = search needs
 
 step-lent-requires : tie.Need-step-lent-requires Inv-loop μ-loop
-step-lent-requires c κs = let c9 = c .before .before .before .before .before .before .before .before .before in c9 .loop .inv .1 .1 ∙ c9 .before .before .before .before .before .before .before .pre
+step-lent-requires c κs = let c9 = c .before .before .before .before .before .before .before .before .before in c9 .loop .inv .1 .1 ∙ c9 .before .before .before .before .before .before .before .before .pre
 
 add-i : tie.Need-add-i Inv-loop μ-loop
 add-i c =
     let test = c .before .before .before .before .before .before .before .before .before .before .before .before .before .before .before .before .before .before .before .before in
-    omega (arith, test .loop-test .taken, test .before .before .before .before .before .before .before .before .good)
+    omega (arith, test .loop-test .taken, test .before .before .before .before .before .before .before .before .before .good)
 
 loop-less : tie.Need-loop-less Inv-loop μ-loop
 loop-less c = search needs
@@ -61,7 +64,7 @@ loop-again c =
     let sized = stepping .before .before .before .before .before .before .before in
     let test = sized .before .before in
     let at = test .before .loop in
-    let pairs = test .before .before .before .before .before .before .before .before .args .pairs .now in
+    let pairs = test .before .before .before .before .before .before .before .before .before .args .pairs .now in
     let size = sized .kind-size .ensures in
     let cut = pairs-cut pairs (at .i) _ _ (test .loop-test .taken) (size .0) (size .1) refl in
     let kept = stepping .step-lent .kept .1 in (
@@ -87,8 +90,8 @@ same-length-5 c = c .before .loop .inv .0 .sizes .size3
 
 returns : tie.Need-returns Inv-loop μ-loop
 returns c =
-    let pairs = c .before .before .before .before .before .before .before .before .args .pairs .now in
-    loop-laws .ends (c .before .loop .inv .0) (pairs-end pairs (c .before .loop .i) (c .loop-test .left))
+    let pairs = c .before .before .before .before .before .before .before .before .before .args .pairs .now in
+    rw (c .before .before .fresh .ensures) at (loop-laws .ends (c .before .loop .inv .0) (pairs-end pairs (c .before .loop .i) (c .loop-test .left)))
 
 pub run-core-spec : {M : Type 1} → statement M
 run-core-spec =
@@ -96,6 +99,7 @@ run-core-spec =
     (tie.spec
     Inv-loop
     μ-loop
+    fresh-requires
     loop-holds
     add-loop
     shared-slice-read-kind-size

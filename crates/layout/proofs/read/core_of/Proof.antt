@@ -1,15 +1,11 @@
--- The port and each drive are read from their own stretch.
-use native.Mathlib.Omega.{arith}
+-- The port, and each drive from its own stretch.
 use Rattle.layout.specs.Read.{coreOf}
 use borrow.Author.Needs.{needs}
 use Rattle.layout.proofs.read.core_of.Statement.{statement}
 use Rattle.layout.proofs.read.core_of.Tie as tie
 
-port-part-requires : tie.Need-port-part-requires
-port-part-requires c κs = search needs
-
-port-of-requires : tie.Need-port-of-requires
-port-of-requires c κs = search needs
+port-in-requires : tie.Need-port-in-requires
+port-in-requires c κs = search needs
 
 drive-part-requires : tie.Need-drive-part-requires
 drive-part-requires c κs = search needs
@@ -30,11 +26,7 @@ drive-of-requires-3 : tie.Need-drive-of-requires-3
 drive-of-requires-3 c κs = search needs
 
 drive-part-requires-4 : tie.Need-drive-part-requires-4
-drive-part-requires-4 c κs =
-    let drive1 = c .before .before .before in
-    let drive0 = drive1 .before .before .before in
-    let port = drive0 .before .before .before in
-    omega (arith, port .before .before .before .before .pre)
+drive-part-requires-4 c κs = search needs
 
 drive-of-requires-4 : tie.Need-drive-of-requires-4
 drive-of-requires-4 c κs = search needs
@@ -45,7 +37,6 @@ returns c =
     let drive2 = c .before .before .before in
     let drive1 = drive2 .before .before .before in
     let drive0 = drive1 .before .before .before in
-    let port = drive0 .before .before .before in
     rw (
       c .drive-of4 .ensures,
       c .before .before .drive-part4 .ensures,
@@ -55,16 +46,14 @@ returns c =
       drive1 .before .before .drive-part2 .ensures,
       drive0 .drive-of .ensures,
       drive0 .before .before .drive-part .ensures,
-      port .port-of .ensures,
-      port .before .before .port-part .ensures,
+      drive0 .before .before .before .port-in .ensures,
     )
 
 pub core-of-spec : {M : Type 1} → statement M
 core-of-spec =
     tie.close
     (tie.spec
-    port-part-requires
-    port-of-requires
+    port-in-requires
     drive-part-requires
     drive-of-requires
     drive-part-requires-2

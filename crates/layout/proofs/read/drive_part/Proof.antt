@@ -1,4 +1,4 @@
--- The copy is the stretch of 23 bytes from the offset on.
+-- The copy is the stretch of a drive's bytes from the offset on.
 use Rattle.layout.proofs.Parts.{part-copied}
 use mathlib.Core.Path.{refl}
 use borrow.Author.Needs.{needs}

@@ -1,11 +1,11 @@
--- The unit's call on what the buffer holds, its staging block lent from where it stands; the rest written back.
+-- The unit's call on what the buffer holds, its staging block lent from where it stands.
 use mathlib.Core.Path.{refl, _∙_}
 use native.Mathlib.Omega.{arith}
 use Rattle.layout.proofs.Form.{record-long}
 use Rattle.board.proofs.InPlace.{lent-part, part-long, back-long, back-staging}
 use borrow.Author.Needs.{needs}
-use Rattle.board.proofs.exports.serve_given.Statement.{statement}
-use Rattle.board.proofs.exports.serve_given.Tie as tie
+use Rattle.board.proofs.serve.serve_given.Statement.{statement}
+use Rattle.board.proofs.serve.serve_given.Tie as tie
 
 core-of-requires : tie.Need-core-of-requires
 core-of-requires c κs = let c7 = c .before .before .before .before .before .before .before in record-long (c7 .args .buffer .now) (c7 .pre)
@@ -22,17 +22,14 @@ part-give-bytes-end c = let c8 = c .before .before .before .before .before .befo
 give-bytes-requires : tie.Need-give-bytes-requires
 give-bytes-requires c κs = search needs
 
-write-core-requires : tie.Need-write-core-requires
-write-core-requires c κs =
+write-turn-requires : tie.Need-write-turn-requires
+write-turn-requires c κs =
     let c12 = c .before .before .before .before .before .before .before .before .before .before .before .before in
     let c26 = c12 .before .before .before .before .before .before .before .before .before .before .before .before .before .before in
     let l = c26 .args .buffer .now in
     let g = c12 .give-bytes .last .1 .0 in
     let size = record-long l (c26 .pre) in
     back-long l g size (c12 .give-bytes .kept .1 .0 ∙ part-long l g size)
-
-turn-bytes-requires : tie.Need-turn-bytes-requires
-turn-bytes-requires c κs = search needs
 
 same-length : tie.Need-same-length
 same-length c = search needs
@@ -51,21 +48,22 @@ same-length-5 c = search needs
 
 returns : tie.Need-returns
 returns c =
-    let c16 = c .before .before .before .before .before .before .before .before .before .before .before .before .before .before .before .before in
-    let c22 = c16 .before .before .before .before .before .before in
-    let c30 = c22 .before .before .before .before .before .before .before .before in
-    let l = c30 .args .buffer .now in
-    let g = c16 .give-bytes .last .1 .0 in
-    let size = record-long l (c30 .pre) in
-    let staging = back-staging l g size (c16 .give-bytes .kept .1 .0 ∙ part-long l g size) in
+    let c15 = c .before .before .before .before .before .before .before .before .before .before .before .before .before .before .before in
+    let c21 = c15 .before .before .before .before .before .before in
+    let c29 = c21 .before .before .before .before .before .before .before .before in
+    let l = c29 .args .buffer .now in
+    let g = c15 .give-bytes .last .1 .0 in
+    let size = record-long l (c29 .pre) in
+    let staging = back-staging l g size (c15 .give-bytes .kept .1 .0 ∙ part-long l g size) in
+    let wrote = c .before .before .write-turn .ensures in
     record {
-      handed = c16 .give-bytes .result;
+      handed = c15 .give-bytes .result;
       staging = g;
-      is = rw (c22 .core-of .ensures, lent-part l g size) at (c16 .give-bytes .ensures);
+      is = rw (c21 .core-of .ensures, lent-part l g size) at (c15 .give-bytes .ensures);
       count = refl;
-      result = c .turn-bytes .ensures;
-      left = rw (staging) at (c .before .before .before .write-core .ensures .0);
-      sized = rw (staging) at (c .before .before .before .write-core .ensures .1);
+      result = wrote .0;
+      left = rw (staging) at (wrote .1 .0);
+      sized = rw (staging) at (wrote .1 .1);
     }
 
 pub serve-given-spec : {M : Type 1} → statement M
@@ -77,8 +75,7 @@ serve-given-spec =
     part-give-bytes-start
     part-give-bytes-end
     give-bytes-requires
-    write-core-requires
-    turn-bytes-requires
+    write-turn-requires
     same-length
     same-length-2
     same-length-3

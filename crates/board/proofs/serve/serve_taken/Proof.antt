@@ -1,11 +1,11 @@
--- The unit's call on what the buffer holds, its staging block lent from where it stands; the rest written back.
+-- The unit's call on what the buffer holds, its staging block lent from where it stands.
 use mathlib.Core.Path.{refl, _∙_}
 use native.Mathlib.Omega.{arith}
 use Rattle.layout.proofs.Form.{record-long}
 use Rattle.board.proofs.InPlace.{lent-part, part-long, back-long, back-staging}
 use borrow.Author.Needs.{needs}
-use Rattle.board.proofs.exports.serve_taken.Statement.{statement}
-use Rattle.board.proofs.exports.serve_taken.Tie as tie
+use Rattle.board.proofs.serve.serve_taken.Statement.{statement}
+use Rattle.board.proofs.serve.serve_taken.Tie as tie
 
 core-of-requires : tie.Need-core-of-requires
 core-of-requires c κs = let c7 = c .before .before .before .before .before .before .before in record-long (c7 .args .buffer .now) (c7 .pre)
@@ -22,17 +22,14 @@ part-take-bytes-end c = let c8 = c .before .before .before .before .before .befo
 take-bytes-requires : tie.Need-take-bytes-requires
 take-bytes-requires c κs = search needs
 
-write-core-requires : tie.Need-write-core-requires
-write-core-requires c κs =
+write-turn-requires : tie.Need-write-turn-requires
+write-turn-requires c κs =
     let c14 = c .before .before .before .before .before .before .before .before .before .before .before .before .before .before in
     let c29 = c14 .before .before .before .before .before .before .before .before .before .before .before .before .before .before .before in
     let l = c29 .args .buffer .now in
     let g = c14 .take-bytes .last .1 .0 in
     let size = record-long l (c29 .pre) in
     back-long l g size (c14 .take-bytes .kept .1 .0 ∙ part-long l g size)
-
-turn-bytes-requires : tie.Need-turn-bytes-requires
-turn-bytes-requires c κs = search needs
 
 same-length : tie.Need-same-length
 same-length c = search needs
@@ -54,21 +51,22 @@ same-length-6 c = search needs
 
 returns : tie.Need-returns
 returns c =
-    let c18 = c .before .before .before .before .before .before .before .before .before .before .before .before .before .before .before .before .before .before in
-    let c25 = c18 .before .before .before .before .before .before .before in
-    let c33 = c25 .before .before .before .before .before .before .before .before in
-    let l = c33 .args .buffer .now in
-    let g = c18 .take-bytes .last .1 .0 in
-    let size = record-long l (c33 .pre) in
-    let staging = back-staging l g size (c18 .take-bytes .kept .1 .0 ∙ part-long l g size) in
+    let c17 = c .before .before .before .before .before .before .before .before .before .before .before .before .before .before .before .before .before in
+    let c24 = c17 .before .before .before .before .before .before .before in
+    let c32 = c24 .before .before .before .before .before .before .before .before in
+    let l = c32 .args .buffer .now in
+    let g = c17 .take-bytes .last .1 .0 in
+    let size = record-long l (c32 .pre) in
+    let staging = back-staging l g size (c17 .take-bytes .kept .1 .0 ∙ part-long l g size) in
+    let wrote = c .before .before .write-turn .ensures in
     record {
-      handed = c18 .take-bytes .result;
+      handed = c17 .take-bytes .result;
       staging = g;
-      is = rw (c25 .core-of .ensures, lent-part l g size) at (c18 .take-bytes .ensures);
+      is = rw (c24 .core-of .ensures, lent-part l g size) at (c17 .take-bytes .ensures);
       count = refl;
-      result = c .turn-bytes .ensures;
-      left = rw (staging) at (c .before .before .before .write-core .ensures .0);
-      sized = rw (staging) at (c .before .before .before .write-core .ensures .1);
+      result = wrote .0;
+      left = rw (staging) at (wrote .1 .0);
+      sized = rw (staging) at (wrote .1 .1);
     }
 
 pub serve-taken-spec : {M : Type 1} → statement M
@@ -80,8 +78,7 @@ serve-taken-spec =
     part-take-bytes-start
     part-take-bytes-end
     take-bytes-requires
-    write-core-requires
-    turn-bytes-requires
+    write-turn-requires
     same-length
     same-length-2
     same-length-3
