@@ -22,7 +22,6 @@ use Rattle.unit.proofs.Inside.{inside-steps}
 use Rattle.layout.specs.Written.{flag, recordSize, phaseAt, phaseBytes}
 use Rattle.layout.specs.Read.{stretch, isRecord, portOf, coreOf, stagingOf}
 use Rattle.layout.specs.Laws.{Octets}
-use Rattle.layout.proofs.Form.{record-long}
 use Rattle.layout.proofs.InPlace.{staging-lent, phase-moved}
 use Rattle.board.specs.Serve.{Tapes, lentWith, linesBytes, Served}
 

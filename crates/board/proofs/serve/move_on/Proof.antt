@@ -1,6 +1,6 @@
 -- What is lent is the staging block, and what comes back stands behind the rest.
 use Prim.Native.Nat.{ℕ}
-use mathlib.Core.Path.{_≡_, sym, ap, _∙_}
+use mathlib.Core.Path.{sym, ap, _∙_}
 use mathlib.Core.List.{List, _++_}
 use lib.ListN.{length, take}
 use Rattle.basis.specs.Placed.{placed}
