@@ -51,7 +51,7 @@ module _ (l g : List ℕ) (size : length l ≡ recordSize) where
     back-staging = ap stagingOf given-back ∙ staging-lent l g size long
 
 -- the six octets that a record says are six
-octets-six : (l : List ℕ) → length (coreOf l .port .octets) ≡ reportSize
+pub octets-six : (l : List ℕ) → length (coreOf l .port .octets) ≡ reportSize
 unfolding coreOf portOf
 octets-six l = refl
 

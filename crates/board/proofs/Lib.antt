@@ -1,4 +1,5 @@
 mod Held
 mod InPlace
+mod Ended
 pub mod Outcomes
 pub mod Calls

@@ -1,3 +1,4 @@
 pub mod Serve
+pub mod Ends
 pub mod Laws
 pub mod Outcomes

@@ -5,11 +5,11 @@ ghost use Rattle.board.specs.Serve.{tapes, Serves, Gives, Takes, Freshen
 use crate::LINES;
 use crate::RESULT;
 use crate::judge::holds;
+use crate::many::serve_given;
+use crate::many::serve_taken;
 use crate::result::lines_bytes;
 use crate::result::no_record;
 use crate::serve::serve;
-use crate::serve::serve_given;
-use crate::serve::serve_taken;
 use answers::lines;
 use layout::RECORD;
 use layout::core_of;

@@ -1,6 +1,7 @@
 // The unit for C and Rust: one event step on a record that lies as bytes in a lent buffer.
 mod exports;
 mod judge;
+mod many;
 mod result;
 mod serve;
 

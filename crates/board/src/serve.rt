@@ -10,8 +10,7 @@ ghost use Rattle.rules.specs.Answer.{rowOf};
 ghost use Rattle.rules.specs.Step.{staged};
 ghost use Rattle.layout.specs.Written.{recordSize, flag, phaseAt, phaseBytes, unit, Sized, unitBytes};
 ghost use Rattle.layout.specs.Read.{isRecord, stagingOf};
-ghost use Rattle.unit.specs.Handover.{GivesOver, TakesOver};
-ghost use Rattle.board.specs.Serve.{tapes, linesBytes, resultBytes, Served, ServedMany};
+ghost use Rattle.board.specs.Serve.{tapes, linesBytes, resultBytes, Served};
 use crate::RESULT;
 use crate::judge::possible_in;
 use crate::result::byte_bytes;
@@ -28,9 +27,7 @@ use port::stage;
 use rules::Phase;
 use rules::Turn;
 use unit::Inside;
-use unit::give_bytes;
 use unit::step_lent;
-use unit::take_bytes;
 use unit::within_block;
 
 // A byte within a block: it is staged, and the phase written, where they stand.
@@ -50,7 +47,7 @@ fn move_on(buffer: &mut [u8], phase: Phase, byte: Inside) -> [u8; RESULT]
 }
 
 // What a turn left, written back beside the staging block; and what it tells.
-fn write_turn(buffer: &mut [u8], turn: Turn) -> [u8; RESULT]
+pub(crate) fn write_turn(buffer: &mut [u8], turn: Turn) -> [u8; RESULT]
     requires { do ⌜ (← ⟦buffer.len()⟧) ≡ recordSize ⌝ }
     ensures { λ r. ⌜ r ≡ resultBytes turn ⌝ }
     ensures { λ _. ⌜ now (buffer .exit) ≡ unitBytes (unit (turn .core) (stagingOf (now (buffer .entry)))) ⌝ }
@@ -61,7 +58,7 @@ fn write_turn(buffer: &mut [u8], turn: Turn) -> [u8; RESULT]
 }
 
 // One event by the unit's step: the staging block is lent from where it stands, the rest read, stepped and written back.
-fn serve_step(
+pub(crate) fn serve_step(
     buffer: &mut [u8],
     tape0: &mut [u8],
     tape1: &mut [u8],
@@ -110,64 +107,4 @@ pub(crate) fn serve(
         }
     }
     serve_step(buffer, tape0, tape1, tape2, tape3, event)
-}
-
-// Bytes given to a buffer that is a record.
-pub(crate) fn serve_given(
-    buffer: &mut [u8],
-    tape0: &mut [u8],
-    tape1: &mut [u8],
-    tape2: &mut [u8],
-    tape3: &mut [u8],
-    bytes: &[u8],
-    result: &mut [u8; RESULT],
-) -> usize
-    requires { ⌜ isRecord (now buffer) ≡ true ⌝ }
-    ensures { λ r. ⌜ ServedMany (λ c l h l′. GivesOver c l (now (bytes .entry)) h l′) (now (buffer .entry))
-        (tapes (now (tape0 .entry)) (now (tape1 .entry)) (now (tape2 .entry)) (now (tape3 .entry))) r (now (result .exit)) (now (buffer .exit))
-        (tapes (now (tape0 .exit)) (now (tape1 .exit)) (now (tape2 .exit)) (now (tape3 .exit))) ⌝ }
-{
-    let core = core_of(buffer);
-    let handed = give_bytes(
-        core,
-        &mut buffer[STAGING..RECORD],
-        tape0,
-        tape1,
-        tape2,
-        tape3,
-        bytes,
-    );
-    let last = handed.last;
-    *result = write_turn(buffer, last);
-    handed.count
-}
-
-// Bytes taken from a buffer that is a record.
-pub(crate) fn serve_taken(
-    buffer: &mut [u8],
-    tape0: &mut [u8],
-    tape1: &mut [u8],
-    tape2: &mut [u8],
-    tape3: &mut [u8],
-    bytes: &mut [u8],
-    result: &mut [u8; RESULT],
-) -> usize
-    requires { ⌜ isRecord (now buffer) ≡ true ⌝ }
-    ensures { λ r. ⌜ ServedMany (λ c l h l′. TakesOver c l (now (bytes .entry)) h l′ (now (bytes .exit))) (now (buffer .entry))
-        (tapes (now (tape0 .entry)) (now (tape1 .entry)) (now (tape2 .entry)) (now (tape3 .entry))) r (now (result .exit)) (now (buffer .exit))
-        (tapes (now (tape0 .exit)) (now (tape1 .exit)) (now (tape2 .exit)) (now (tape3 .exit))) ⌝ }
-{
-    let core = core_of(buffer);
-    let handed = take_bytes(
-        core,
-        &mut buffer[STAGING..RECORD],
-        tape0,
-        tape1,
-        tape2,
-        tape3,
-        bytes,
-    );
-    let last = handed.last;
-    *result = write_turn(buffer, last);
-    handed.count
 }

@@ -2,7 +2,8 @@ pub mod Demands
 pub mod Outcomes
 mod Bytes
 pub mod Handover
-mod Ahead
-mod Legs
+pub mod Ahead
+pub mod Legs
+pub mod Completed
 mod Settling
 pub mod Inside

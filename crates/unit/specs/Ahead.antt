@@ -49,6 +49,11 @@ takenAhead c calm t want = pick calm (readAhead (driveAt c (c .port .selected)) 
 abbrev pub nextBytes : Drive → List ℕ → Phase → ℕ → List ℕ
 nextBytes d t ph k = take k (drop (d .head + 1 + takenBefore ph) t)
 
+-- Copied to the front of a buffer, as many as it has room for.
+pub record ReadsOn (d : Drive) (t : List ℕ) (ph : Phase) (out : List ℕ) (r : ℕ) (out′ : List ℕ) : Type 0 where
+  pub count : r ≡ readAhead d t ph (length out)
+  pub bytes : out′ ≡ placed out 0 (nextBytes d t ph r)
+
 -- Copied to a buffer from an offset on, as many as it has room for.
 pub record TakesAhead (c : Core) (calm : Bool) (t out : List ℕ) (at r : ℕ) (out′ : List ℕ) : Type 0 where
   pub count : r ≡ takenAhead c calm t (length out - at)

@@ -13,6 +13,7 @@ use Rattle.unit.specs.declared.many.Handed.{Handed}
 use Rattle.unit.specs.declared.within.Inside.{Inside}
 use Rattle.unit.specs.Turn.{turnOfOutcome}
 use Rattle.unit.specs.Within.{insideOf}
+use Rattle.unit.specs.Ahead.{ReadsOn}
 use Rattle.unit.specs.Handover.{GivesOver, TakesOver}
 
 -- The four tapes.
@@ -27,6 +28,8 @@ pub record OneOutcome : Type 0 where
       → (r ≡ r′) × SameTapes l′ l″
   pub within-block : (ph : Phase) (d : Drive) (t event : List ℕ) (r r′ : Inside)
       → r ≡ insideOf ph d t event → r′ ≡ insideOf ph d t event → r ≡ r′
+  pub read-on : (d : Drive) (t : List ℕ) (ph : Phase) (out : List ℕ) (r r′ : ℕ) (out′ out″ : List ℕ)
+      → ReadsOn d t ph out r out′ → ReadsOn d t ph out r′ out″ → (r ≡ r′) × (out′ ≡ out″)
   pub give-bytes : (c : Core) (l : Lent) (bytes : List ℕ) (r r′ : Handed) (l′ l″ : Lent)
       → GivesOver c l bytes r l′ → GivesOver c l bytes r′ l″ → (r ≡ r′) × (l′ ≡ l″)
   pub take-bytes : (c : Core) (l : Lent) (out : List ℕ) (r r′ : Handed) (l′ l″ : Lent) (out′ out″ : List ℕ)

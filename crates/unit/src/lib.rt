@@ -6,6 +6,7 @@ mod within;
 
 pub use many::Handed;
 pub use many::give_bytes;
+pub use many::read_on;
 pub use many::take_bytes;
 pub use steps::step;
 pub use steps::step_core;

@@ -9,7 +9,7 @@ ghost use Rattle.tape.specs.Record.{bodySize};
 ghost use Rattle.rules.specs.Unit.{lent, oneOf};
 ghost use Rattle.rules.specs.Answer.{rowOf};
 ghost use Rattle.unit.specs.Handover.{GivesOver, TakesOver};
-ghost use Rattle.unit.specs.Ahead.{aheadOf, givenAhead, readAhead, nextBytes, TakesAhead, GivesSome, TakesSome};
+ghost use Rattle.unit.specs.Ahead.{aheadOf, givenAhead, readAhead, nextBytes, ReadsOn, TakesAhead, GivesSome, TakesSome};
 use crate::steps::step_lent;
 use answers::GIVEN;
 use answers::TAKEN;
@@ -81,7 +81,29 @@ fn read_ahead(drive: Drive, tape: &[u8], phase: Phase, out: &mut [u8], at: usize
     0
 }
 
-// The same off the tape of the selected drive.
+// The same off the tape with the drive's number, to the front of the buffer.
+pub fn read_on(
+    drive: Drive,
+    i: u8,
+    tape0: &[u8],
+    tape1: &[u8],
+    tape2: &[u8],
+    tape3: &[u8],
+    phase: Phase,
+    out: &mut [u8],
+) -> usize
+    ensures { λ r. ⌜ ReadsOn drive (oneOf i (now (tape0 .entry)) (now (tape1 .entry)) (now (tape2 .entry)) (now (tape3 .entry))) phase
+        (now (out .entry)) r (now (out .exit)) ⌝ }
+{
+    match i {
+        0 => read_ahead(drive, tape0, phase, out, 0),
+        1 => read_ahead(drive, tape1, phase, out, 0),
+        2 => read_ahead(drive, tape2, phase, out, 0),
+        _ => read_ahead(drive, tape3, phase, out, 0),
+    }
+}
+
+// The same off the tape of the selected drive, from an offset on.
 fn taken_ahead(
     core: Core,
     calm: bool,

@@ -4,8 +4,8 @@ use native.Mathlib.Omega.{arith}
 use Rattle.layout.proofs.Form.{record-long}
 use Rattle.board.proofs.InPlace.{lent-part, part-long, back-long, back-staging}
 use borrow.Author.Needs.{needs}
-use Rattle.board.proofs.serve.serve_given.Statement.{statement}
-use Rattle.board.proofs.serve.serve_given.Tie as tie
+use Rattle.board.proofs.many.give_all.Statement.{statement}
+use Rattle.board.proofs.many.give_all.Tie as tie
 
 core-of-requires : tie.Need-core-of-requires
 core-of-requires c κs = let c7 = c .before .before .before .before .before .before .before in record-long (c7 .args .buffer .now) (c7 .pre)
@@ -66,8 +66,8 @@ returns c =
       sized = rw (staging) at (wrote .1 .1);
     }
 
-pub serve-given-spec : {M : Type 1} → statement M
-serve-given-spec =
+pub give-all-spec : {M : Type 1} → statement M
+give-all-spec =
     tie.close
     (tie.spec
     core-of-requires
