@@ -8,8 +8,8 @@ import subprocess
 LEMMAS = "bare-size bodied-size byte-given byte-taken drive-at eight-at four-at given-at given-place in-sequence " \
     "line-size mode-fits next-inside own-tape own-at room-asked settled-by taken-inside went-in went-out " \
     "block_room code_fits given_inside in_order in_step is_block step_by taken_at two_at".split()
-# The run of no events, beside the definition of what is handed over by none.
-APART = {"no-event": "no_events"}
+# Constructors beside a definition of their name, in whose types it stands.
+APART = {"no-event": "no_events", "end-kind": "one_end"}
 NAME = r"[^\s(){}\[\],.;:]+"
 SIGNATURE = re.compile(rf"^(\s*)((?:abbrev |unfoldable |pub |ruleset |record |data )*)({NAME})\s*(?:\{{[^}}]*\}}\s*)?[:=]\s")
 ANTT = sorted(glob.glob("crates/*/specs/**/*.antt", recursive=True) + glob.glob("crates/*/proofs/**/*.antt", recursive=True))

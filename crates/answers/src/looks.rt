@@ -6,7 +6,7 @@ ghost use Rattle.answers.specs.Looks.{look_of};
 use rules::{Core, Drive};
 
 // A cartridge in, and whether the drive takes data.
-#[derive(Drop)]
+#[derive(Clone, Copy)]
 pub struct Seen {
     pub loaded: bool,
     pub writes: bool,

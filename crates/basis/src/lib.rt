@@ -1,4 +1,6 @@
 // What every crate needs of lists, numbers and text.
+#![tactic(auto)]
+
 mod number;
 mod place;
 

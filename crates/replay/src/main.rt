@@ -13,7 +13,7 @@ const TAPE: usize = 16384;
 const PIECE: usize = 65536;
 
 // The bytes of input that are not run yet, whether no more will come, and whether to go on.
-#[derive(Drop)]
+#[derive(Clone, Copy)]
 struct Piece {
     from: usize,
     to: usize,

@@ -42,6 +42,8 @@ loop_laws =
 
 pub runs_are_the_books : RunsAreTheBooks
 runs_are_the_books w w' [] [] no_events = record { left = refl; answered = refl }
+runs_are_the_books w w' [] (r ∷ rs) none = elim none [ ]
+runs_are_the_books w w' (event ∷ events) [] none = elim none [ ]
 runs_are_the_books w w' (event ∷ events) (r ∷ rs) (next {c} {l} {l'} p q) =
     let on = loop_goes_on c l event r l' (event ∷ events) events p refl in
     let rest = runs_are_the_books (world r.core l') w' events rs q in
@@ -73,4 +75,6 @@ run_laws =
 
 pub ran_append : RanAppend
 ran_append w w' w'' [] fs [] ss no_events q = q
+ran_append w w' w'' [] fs (r ∷ rs) ss none q = elim none [ ]
+ran_append w w' w'' (e ∷ es) fs [] ss none q = elim none [ ]
 ran_append w w' w'' (e ∷ es) fs (r ∷ rs) ss (next {c} {l} {l'} p more) q = next p (ran_append (world r.core l') w' w'' es fs rs ss more q)

@@ -290,5 +290,5 @@ module _ (c : Core) (l : Lent) (k : Sound c l) (d : ℕ) (d3 : d ≤ 3) where
   sim r v h = go (eqb c.port.selected d) refl
     where
       go : (s : Bool) → eqb c.port.selected d ≡ s → Sim d v c cv (settled c l v (refusal_in c v)) (settled cv lv v (refusal_in cv v))
-      go true e = sim_here c l k d d3 e r v _ h
+      go true e = sim_here c l k d d3 e r v (settled c l v (refusal_in c v)).turn.answer h
       go false e = sim_away e r v h

@@ -1,7 +1,7 @@
 -- The orders of a strike, each from the seat of a drive that may take it, and the line that falls and rises.
 use Prim.Native.Nat.{ℕ, ◌+◌, ◌≤◌}
 use mathlib.Core.Path.{◌≡◌, refl, ap, subst, ◌∙◌}
-use mathlib.Core.Bool.{true, false}
+use mathlib.Core.Bool.{Bool, true, false}
 use mathlib.Core.List.{List, [], ◌∷◌}
 use native.Mathlib.Omega.{arith}
 use lib.ListN.{length}
@@ -31,7 +31,7 @@ use Rattle.rules.specs.Edge.{checked}
 use Rattle.rules.specs.Octets.{octets_of}
 use Rattle.rules.specs.Effect.{Seat, seat, Acted, leaves, ordered, fault_of}
 use Rattle.rules.specs.Bytes.{octet_taken, after_octet}
-use Rattle.rules.specs.Online.{dropped}
+use Rattle.rules.specs.Online.{dropped, leaving, left_alone, levelled}
 use Rattle.rules.specs.Step.{act}
 use Rattle.rules.specs.Run.{World, after}
 use Rattle.rules.proofs.Codes.{orders, command_event}
@@ -117,12 +117,19 @@ module _ (p : Port) (d : Drive) (t : List ℕ) where
       → Moves w (1 ∷ 192 ∷ []) g (leaves false (showing (octets_of d) (at_phase Rest p)) (cleared d) t)
   status_moves w g k = order_moves w g 192 ReadStatus k orders.status (status_passes here) refl
 
+  falls : (online exception loaded : Bool) (m : Mode) → online ≡ true → exception ≡ false → loaded ≡ true → m ≡ Idle
+      → pick online (pick exception (leaves false (at_level false p) (in_mode Idle d) t) (pick loaded (leaving here m) (levelled false here))) (levelled false here)
+      ≡ left_alone here t
+  unfolding pick
+  falls online exception loaded m up calm there idle = rw (up, calm, there, idle)
+
   -- the line falls with the drive Idle, and rises
   pub fall_moves : (w : World) (g : List ℕ) → Sits w g here → Fit p d Idle
       → Moves w (5 ∷ []) g (leaves false (at_level false p) (rewound (in_mode Idle d)) t)
   unfolding dropped pick
   fall_moves w g k f =
-      let e : act g here Offline ≡ leaves false (at_level false p) (rewound (in_mode Idle d)) t = rw (f.online, f.calm, f.loaded, f.mode) in
+      let e : act g here Offline ≡ leaves false (at_level false p) (rewound (in_mode Idle d)) t =
+      falls p.online d.exception d.loaded d.mode f.online f.calm f.loaded f.mode in
       subst (Moves w (5 ∷ []) g) e
       (sits_step w g here (5 ∷ []) Offline k line_events.1 refl (ap (λ (m : Acted). m.moved.port.selected) e))
 

@@ -10,7 +10,7 @@ const LAST_TAKEN: u8 = 1;
 const IMPOSSIBLE: u8 = 5;
 
 // Document 01's answers 0 to 6, in the order of their numbers.
-#[derive(Drop)]
+#[derive(Clone, Copy)]
 pub enum Answer {
     Taken,
     Raised,
@@ -52,7 +52,7 @@ impl Answer {
     }
 }
 
-#[derive(Drop)]
+#[derive(Clone, Copy)]
 pub struct Lines {
     pub ready: bool,
     pub exception: bool,
@@ -60,7 +60,7 @@ pub struct Lines {
 }
 
 // What a step of the unit hands back.
-#[derive(Drop)]
+#[derive(Clone, Copy)]
 pub struct Outcome {
     pub unit: Unit,
     pub answer: Answer,
@@ -70,7 +70,7 @@ pub struct Outcome {
 }
 
 // What a step hands back where the staging block is lent beside the tapes.
-#[derive(Drop)]
+#[derive(Clone, Copy)]
 pub struct Turn {
     pub core: Core,
     pub answer: Answer,

@@ -6,7 +6,7 @@ ghost use Rattle.rules.specs.Late.{one_less};
 
 use crate::HIGHEST;
 
-#[derive(Drop)]
+#[derive(Clone, Copy)]
 pub enum Mode {
     Idle,
     Writing,
@@ -36,7 +36,7 @@ impl Mode {
 }
 
 // The bits that stay until READ STATUS or RESET.
-#[derive(Drop)]
+#[derive(Clone, Copy)]
 pub enum Bit {
     Cni,
     Eom,
@@ -48,7 +48,7 @@ pub enum Bit {
     Por,
 }
 
-#[derive(Drop)]
+#[derive(Clone, Copy)]
 pub struct Latched {
     pub cni: bool,
     pub eom: bool,
@@ -61,14 +61,14 @@ pub struct Latched {
 }
 
 // Two kinds of count that cannot be mixed up.
-#[derive(Drop)]
+#[derive(Clone, Copy)]
 pub struct Errors(pub u16);
 
-#[derive(Drop)]
+#[derive(Clone, Copy)]
 pub struct Underruns(pub u16);
 
 // Wide fields first, so that no room is lost between them: a record is copied with each event.
-#[derive(Drop)]
+#[derive(Clone, Copy)]
 pub struct Drive {
     pub head: usize,
     pub errors: Errors,

@@ -1,7 +1,7 @@
 // What an event asks, sorted by whom it means.
 
 // What the host does with the selected drive.
-#[derive(Drop)]
+#[derive(Clone, Copy)]
 pub enum Act {
     Command(u8),
     Give(u8),
@@ -11,7 +11,7 @@ pub enum Act {
 }
 
 // What happens at a drive that the event names: cartridge in (protected or not), cartridge out, a count.
-#[derive(Drop)]
+#[derive(Clone, Copy)]
 pub enum What {
     In(bool),
     Out,
@@ -19,7 +19,7 @@ pub enum What {
     Underrun,
 }
 
-#[derive(Drop)]
+#[derive(Clone, Copy)]
 pub enum Event {
     NoEvent,
     Reset,

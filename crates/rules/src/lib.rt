@@ -1,4 +1,6 @@
 // Document 01 as a book: the records of the unit with their moves by value. The rules stand in specs/.
+#![tactic(auto)]
+
 mod answer;
 mod drive;
 mod event;

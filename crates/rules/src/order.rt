@@ -1,7 +1,7 @@
 // The orders, what each needs, and what the tests and the edge check find.
 use crate::drive::Drive;
 
-#[derive(Drop)]
+#[derive(Clone, Copy)]
 pub enum Order {
     NoOrder,
     Select(u8),
@@ -17,7 +17,7 @@ pub enum Order {
 
 // A row for each order: a known code; READ STATUS; taken in Writing; taken in Reading; what it needs of the line, the slot and the plug;
 // the room it asks for.
-#[derive(Drop)]
+#[derive(Clone, Copy)]
 pub struct Needs {
     pub known: bool,
     pub status: bool,
@@ -30,7 +30,7 @@ pub struct Needs {
 }
 
 // The first test that fits: tests 1 to 4, test 5, test 6, test 7, or none.
-#[derive(Drop)]
+#[derive(Clone, Copy)]
 pub enum Fault {
     Fine,
     Illegal,
@@ -40,7 +40,7 @@ pub enum Fault {
 }
 
 // What the edge check leaves of the drive, and whether it raised EXCEPTION.
-#[derive(Drop)]
+#[derive(Clone, Copy)]
 pub struct Checked {
     pub raised: bool,
     pub drive: Drive,

@@ -3,7 +3,7 @@ ghost use Rattle.std.specs.Prelude.{◌≡◌};
 ghost use Rattle.rules.specs.Phase.{at_rest, is_status, rest_or_status, given_before, taken_before, outstanding, which_phase, how_far};
 
 // Rest; n bytes of a block given by the host; n bytes of a block handed out; k octets outstanding.
-#[derive(Drop)]
+#[derive(Clone, Copy)]
 pub enum Phase {
     Rest,
     Taking(usize),

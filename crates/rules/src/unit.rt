@@ -9,7 +9,7 @@ use crate::phase::Phase;
 use tape::BODY;
 
 // Small enough that what a step hands back has 128 bytes: above that a copy is a call.
-#[derive(Drop)]
+#[derive(Clone, Copy)]
 pub struct Port {
     pub phase: Phase,
     pub octets: [u8; OCTETS],
@@ -17,7 +17,7 @@ pub struct Port {
     pub online: bool,
 }
 
-#[derive(Drop)]
+#[derive(Clone, Copy)]
 pub struct Core {
     pub port: Port,
     pub drive0: Drive,
@@ -26,14 +26,14 @@ pub struct Core {
     pub drive3: Drive,
 }
 
-#[derive(Drop)]
+#[derive(Clone, Copy)]
 pub struct Unit {
     pub core: Core,
     pub staging: [u8; BODY],
 }
 
 // What an act of the selected drive leaves of the port and its record, and whether it raised EXCEPTION or handed out a byte.
-#[derive(Drop)]
+#[derive(Clone, Copy)]
 pub struct Moved {
     pub port: Port,
     pub drive: Drive,

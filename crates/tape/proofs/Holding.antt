@@ -136,19 +136,19 @@ way_is {t} {h} (at_stop {w = w} e) = sym (trail_stop t h w e)
 
 past_above : {t : List ℕ} {h : ℕ} {r : Trail} → Walks t h r → (n a : ℕ) → past_marks n r ≡ Past a → h ≤ a
 past_above {t} {h} {r} w zero a p = let q : start_of r ≡ a = cc in omega (arith, way_start w, q)
-past_above {t} {h} (over_block e w) (suc n) a p = let l = past_above w (suc n) a p in omega arith
-past_above {t} {h} (over_mark e w) (suc n) a p = let l = past_above w n a p in omega arith
+past_above {t} {h} (over_block {r = r} e w) (suc n) a p = let l = past_above {t = t} {h = h + 513} {r = r} w (suc n) a p in omega arith
+past_above {t} {h} (over_mark {r = r} e w) (suc n) a p = let l = past_above {t = t} {h = h + 1} {r = r} w n a p in omega arith
 past_above {t} {h} (at_stop e) (suc n) a p = absurd (let z : ◌≡◌ {A = ℕ} 0 1 = cc in omega arith)
 
 same_way : {t : List ℕ} {h : ℕ} {r : Trail} (u : List ℕ) → Walks t h r → (n a : ℕ) → past_marks n r ≡ Past a → take a t ≡ take a u → a ≤ length u
     → past_marks n (trail u h) ≡ Past a
 same_way {t} {h} u w zero a p e n = ap Past (trail_start u h ∙ sym (way_start w)) ∙ p
-same_way {t} {h} u (over_block f w) (suc m) a p e n =
+same_way {t} {h} u (over_block {r = r} f w) (suc m) a p e n =
     let l = past_above w (suc m) a p in
-    rw (trail_block u h (block_same t u a h e n l f)) (same_way u w (suc m) a p e n)
-same_way {t} {h} u (over_mark f w) (suc m) a p e n =
+    rw (trail_block u h (block_same t u a h e n l f)) (same_way {t = t} {h = h + 513} {r = r} u w (suc m) a p e n)
+same_way {t} {h} u (over_mark {r = r} f w) (suc m) a p e n =
     let l = past_above w m a p in
-    rw (trail_mark u h (mark_same t u a h e n l f)) (same_way u w m a p e n)
+    rw (trail_mark u h (mark_same t u a h e n l f)) (same_way {t = t} {h = h + 1} {r = r} u w m a p e n)
 same_way {t} {h} u (at_stop f) (suc m) a p e n = absurd (let z : ◌≡◌ {A = ℕ} 0 1 = cc in omega arith)
 
 pub past_same : PastSame

@@ -13,7 +13,7 @@ use Rattle.tape.specs.declared.found.Found.TheVariants.{Stop}
 use Rattle.tape.specs.declared.found.Why.TheVariants.{End}
 use Rattle.tape.specs.Record.{found_at, mark_record, block_record}
 use Rattle.tape.specs.Recording.{ended, put_in, recorded}
-use Rattle.tape.specs.Laws.{whole_block, one_mark, end_kind, tape_end, RecordingKeeps, MarkFound, BlockFound}
+use Rattle.tape.specs.Laws.{whole_block, one_mark, one_end, tape_end, RecordingKeeps, MarkFound, BlockFound}
 use Rattle.tape.proofs.Standing.{case_found}
 
 ended_length : (l : List ℕ) → length (ended l) ≡ length l
@@ -69,7 +69,7 @@ module _ (t rec : List ℕ) (h : ℕ) (fits : h + length rec ≤ length t) where
       go : (b : Bool) → leb (h + length rec + 1) (length t) ≡ b → found_at (recorded t h rec) (h + length rec) ≡ Stop End
       go true e =
           let l : h + length rec + 1 ≤ length t = leb-true _ _ e in
-          case_found _ _ _ (end_kind (rw recorded_length (omega arith)) recorded_end)
+          case_found _ _ _ (one_end (rw recorded_length (omega arith)) recorded_end)
       go false e =
           let l : length t < h + length rec + 1 = leb-false _ _ e in
           case_found _ _ _ (tape_end (rw recorded_length (omega arith)))

@@ -11,13 +11,13 @@ use Rattle.tape.specs.declared.found.Found.TheVariants.{Block, Mark, Stop}
 use Rattle.tape.specs.declared.found.Why.TheVariants.{End, Unknown, Bad}
 use Rattle.basis.specs.Choice.{pick}
 use Rattle.tape.specs.Record.{of_kind, found_at}
-use Rattle.tape.specs.Laws.{Stands, whole_block, one_mark, end_kind, tape_end, other_kind, cut_block, off_tape, CaseFound, FoundCase, UnknownKind, UnknownFound, FoundUnknown, BlockFits, MarkFits}
+use Rattle.tape.specs.Laws.{Stands, whole_block, one_mark, one_end, tape_end, other_kind, cut_block, off_tape, CaseFound, FoundCase, UnknownKind, UnknownFound, FoundUnknown, BlockFits, MarkFits}
 
 pub case_found : CaseFound
 unfolding pick found_at of_kind
 case_found t h f (whole_block b k) = simp (lt-ltb h (length t) (omega (arith, b)), k, le-leb _ _ b)
 case_found t h f (one_mark b k) = simp (lt-ltb _ _ b, k)
-case_found t h f (end_kind b k) = simp (lt-ltb _ _ b, k)
+case_found t h f (one_end b k) = simp (lt-ltb _ _ b, k)
 case_found t h f (tape_end e) = simp (le-ltb h (length t) (omega (arith, e)), eq-eqb _ _ e)
 case_found t h f (other_kind b k0 k1 k2) = simp (lt-ltb _ _ b, ne_eqb _ _ k0, ne_eqb _ _ k1, ne_eqb _ _ k2)
 case_found t h f (cut_block b s k) = simp (lt-ltb _ _ b, k, lt-leb _ _ s)
@@ -30,7 +30,7 @@ stands t h = go _ _ _ _ _ _ refl refl refl refl refl refl
     go : (b k0 k1 w k2 o : Bool) → ltb h (length t) ≡ b → eqb (get_or t h 0) 0 ≡ k0 → eqb (get_or t h 0) 1 ≡ k1
         → leb (h + 513) (length t) ≡ w → eqb (get_or t h 0) 2 ≡ k2 → eqb h (length t) ≡ o
         → Stands t h (pick b (pick k0 (Stop End) (pick k1 (pick w Block (Stop Bad)) (pick k2 Mark (Stop Unknown)))) (pick o (Stop End) (Stop Bad)))
-    go true true k1 w k2 o eb e0 e1 ew e2 eo = end_kind (ltb-true _ _ eb) (eqb-true _ _ e0)
+    go true true k1 w k2 o eb e0 e1 ew e2 eo = one_end (ltb-true _ _ eb) (eqb-true _ _ e0)
     go true false true true k2 o eb e0 e1 ew e2 eo = whole_block (leb-true _ _ ew) (eqb-true _ _ e1)
     go true false true false k2 o eb e0 e1 ew e2 eo = cut_block (ltb-true _ _ eb) (leb-false _ _ ew) (eqb-true _ _ e1)
     go true false false w true o eb e0 e1 ew e2 eo = one_mark (ltb-true _ _ eb) (eqb-true _ _ e2)

@@ -14,7 +14,7 @@ use Rattle.tape.specs.Walk.{Trail, block, mark, stop, trail, start_of, past_mark
 pub data Stands (t : List ℕ) (h : ℕ) : Found → Type 0 where
   whole_block : h + block_size ≤ length t → get_or t h 0 ≡ block_kind → Stands t h Block
   one_mark : h < length t → get_or t h 0 ≡ mark_kind → Stands t h Mark
-  end_kind : h < length t → get_or t h 0 ≡ end_kind → Stands t h (Stop End)
+  one_end : h < length t → get_or t h 0 ≡ end_kind → Stands t h (Stop End)
   tape_end : h ≡ length t → Stands t h (Stop End)
   other_kind : h < length t → (get_or t h 0 ≡ end_kind → ⊥) → (get_or t h 0 ≡ block_kind → ⊥) → (get_or t h 0 ≡ mark_kind → ⊥) → Stands t h (Stop Unknown)
   cut_block : h < length t → length t < h + block_size → get_or t h 0 ≡ block_kind → Stands t h (Stop Bad)

@@ -5,14 +5,14 @@ ghost use Rattle.tape.specs.Record.{found_at};
 use crate::{BLOCK, BLOCK_SIZE, END, MARK};
 
 // Why there is no record to pass: the data ends, or the record is bad by its kind or otherwise.
-#[derive(Drop)]
+#[derive(Clone, Copy)]
 pub enum Why {
     End,
     Unknown,
     Bad,
 }
 
-#[derive(Drop)]
+#[derive(Clone, Copy)]
 pub enum Found {
     Block,
     Mark,

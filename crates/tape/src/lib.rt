@@ -1,4 +1,6 @@
 // One cartridge's tape: a lent buffer of records, each one byte of kind and a body whose length the kind fixes.
+#![tactic(auto)]
+
 mod found;
 mod pass;
 mod record;

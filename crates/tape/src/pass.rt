@@ -6,14 +6,14 @@ use crate::found::{Found, Why, found_at};
 use crate::{BLOCK_SIZE, MARK_SIZE};
 
 // Where passing records ended: just past a mark, or where there was no record to pass, and why.
-#[derive(Drop)]
+#[derive(Clone, Copy)]
 pub enum Passed {
     Past(usize),
     Stopped(usize, Why),
 }
 
 // A way over the tape: where it ended, and how many marks and how many records it passed.
-#[derive(Drop)]
+#[derive(Clone, Copy)]
 pub struct Way {
     pub end: Passed,
     pub marks: usize,

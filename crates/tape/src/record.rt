@@ -6,7 +6,7 @@ ghost use Rattle.tape.specs.Recording.{put_in, ended_at, written, mark_written, 
 use crate::{BLOCK, BLOCK_SIZE, BODY, END, MARK, MARK_SIZE};
 
 // What came of an order to record: the offset just past the record, or no room for it.
-#[derive(Drop)]
+#[derive(Clone, Copy)]
 pub enum Made {
     Next(usize),
     NoRoom,

@@ -18,7 +18,7 @@ const BODIED_SIZE: usize = 2;
 
 // What the next event of a stretch of bytes is: whole, with so many bytes; one byte of a kind unknown;
 // cut off by the end of the stretch; or none is left.
-#[derive(Drop)]
+#[derive(Clone, Copy)]
 pub enum Cut {
     Whole(usize),
     UnknownKind,

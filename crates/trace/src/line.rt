@@ -22,7 +22,7 @@ const NEWLINE: u8 = b'\n';
 pub(crate) const FIELDS: usize = 10;
 
 // What came of an order to show a line: the offset just past it, or no room for it.
-#[derive(Drop)]
+#[derive(Clone, Copy)]
 pub enum Shown {
     Next(usize),
     NoRoom,

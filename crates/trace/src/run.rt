@@ -16,7 +16,7 @@ const LAST_NUMBER: u64 = u64::MAX;
 const STOP: u8 = 4;
 
 // Why a run halted: no whole event is left, no room is left for its line, or an answer 4 stopped it.
-#[derive(Drop)]
+#[derive(Clone, Copy)]
 pub enum Halt {
     InputOut,
     RoomOut,
@@ -24,7 +24,7 @@ pub enum Halt {
 }
 
 // What a run hands back: the core, the bytes of input that its events took, the bytes of output written, the events answered in all.
-#[derive(Drop)]
+#[derive(Clone, Copy)]
 pub struct Played {
     pub core: Core,
     pub used: usize,
@@ -34,7 +34,7 @@ pub struct Played {
 }
 
 // What one event leaves: the core, the bytes of output written, whether reading stops.
-#[derive(Drop)]
+#[derive(Clone, Copy)]
 struct Answered {
     core: Core,
     full: usize,

@@ -16,7 +16,7 @@ use rules::{Answer, Core, Drive, LAST_PLACE, Phase, Turn};
 use tape::found_at;
 
 // How many bytes went over, and what the last event was answered.
-#[derive(Drop)]
+#[derive(Clone, Copy)]
 pub struct Handed {
     pub count: usize,
     pub last: Turn,

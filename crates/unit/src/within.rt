@@ -11,14 +11,14 @@ use rules::{Act, Core, Drive, Phase};
 use tape::found_at;
 
 // A byte of the tape, where there is one.
-#[derive(Drop)]
+#[derive(Clone, Copy)]
 pub(crate) struct Next {
     pub there: bool,
     pub byte: u8,
 }
 
 // What an event comes to that is a byte within a block: the act, the phase after it, and the byte that it hands out.
-#[derive(Drop)]
+#[derive(Clone, Copy)]
 pub struct Inside {
     pub there: bool,
     pub act: Act,
