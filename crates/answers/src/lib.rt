@@ -1,4 +1,6 @@
 // What an event means, what refuses it, and what it is answered: all of it without a tape.
+#![tactic(auto)]
+
 mod event;
 mod looks;
 mod place;

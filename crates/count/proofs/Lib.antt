@@ -1,6 +1,2 @@
-mod Values
-mod Promised
-mod Raising
-mod Within
-mod Lending
 pub mod Outcomes
+pub mod Lands

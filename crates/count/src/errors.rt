@@ -11,12 +11,11 @@ pub fn count_errors(core: Core, i: u8) -> Core
     ensures { result ≡ put_drive core core.port i (error_counted (drive_at core i)) }
 {
     let mut c = core;
-    let drive = match i {
-        0 => &mut c.drive0,
-        1 => &mut c.drive1,
-        2 => &mut c.drive2,
-        _ => &mut c.drive3,
-    };
-    raise_errors(drive);
+    match i {
+        0 => raise_errors(&mut c.drive0),
+        1 => raise_errors(&mut c.drive1),
+        2 => raise_errors(&mut c.drive2),
+        _ => raise_errors(&mut c.drive3),
+    }
     c
 }

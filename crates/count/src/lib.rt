@@ -1,4 +1,6 @@
 // One counter of a drive raised where its record stands: the record is lent, changed, and stays where it is.
+#![tactic(auto)]
+
 ghost use Rattle.std.specs.Prelude.{◌≡◌};
 ghost use Rattle.rules.specs.Drive.{error_counted, underrun_counted};
 

@@ -11,12 +11,11 @@ pub fn count_underruns(core: Core, i: u8) -> Core
     ensures { result ≡ put_drive core core.port i (underrun_counted (drive_at core i)) }
 {
     let mut c = core;
-    let drive = match i {
-        0 => &mut c.drive0,
-        1 => &mut c.drive1,
-        2 => &mut c.drive2,
-        _ => &mut c.drive3,
-    };
-    raise_underruns(drive);
+    match i {
+        0 => raise_underruns(&mut c.drive0),
+        1 => raise_underruns(&mut c.drive1),
+        2 => raise_underruns(&mut c.drive2),
+        _ => raise_underruns(&mut c.drive3),
+    }
     c
 }

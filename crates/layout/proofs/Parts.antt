@@ -23,15 +23,9 @@ use Rattle.layout.specs.Read.{stretch, drive_of, core_of, staging_of}
 use Rattle.layout.proofs.Stretch.{stretch_end}
 
 -- a part copied over an array of its size is that part
-pub part_copied : (l : List ℕ) (at end n : ℕ) (z r : List ℕ) → end ≡ at + n → length z ≡ n → end ≤ length l
-    → r ≡ take (length (take (end - at) (drop at l))) (take (end - at) (drop at l)) ++ drop (length (take (end - at) (drop at l))) z
-    → r ≡ stretch at n l
+pub part_copied : (l : List ℕ) (at end n : ℕ) (r : List ℕ) → end ≡ at + n → r ≡ take (end - at) (drop at l) → r ≡ stretch at n l
 unfolding stretch
-part_copied l at end n z r e size fits is =
-    let k : end - at ≡ n = omega (arith, e) in
-    let part : length (take n (drop at l)) ≡ n = length-take-le n (drop at l) (omega (arith, e, fits, length-drop at l)) in
-    let none : drop (length (take n (drop at l))) z ≡ [] = drop_of_length-le z {i = length (take n (drop at l))} (omega (arith, part, size)) in
-    (rw (k) at is) ∙ rw (take-length (take n (drop at l)), none, append-nil)
+part_copied l at end n r e is = let k : end - at ≡ n = omega (arith, e) in rw (k) at is
 
 -- a drive by its number: it ends inside the record, and its stretch is read as it
 pub drive_inside : (i : ℕ) → one_of i 18 50 82 114 ≤ 114

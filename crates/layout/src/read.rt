@@ -134,7 +134,7 @@ fn port_part(buffer: &[u8]) -> [u8; PORT]
     ensures { result ≡ stretch 0 port_size buffer.now }
 {
     let mut part = [0; PORT];
-    bytes::copy(&buffer[0..PORT], &mut part);
+    part.copy_from_slice(&buffer[0..PORT]);
     part
 }
 
@@ -144,7 +144,7 @@ fn drive_part(buffer: &[u8], at: usize) -> [u8; DRIVE]
 {
     let mut part = [0; DRIVE];
     let end = at + DRIVE;
-    bytes::copy(&buffer[at..end], &mut part);
+    part.copy_from_slice(&buffer[at..end]);
     part
 }
 

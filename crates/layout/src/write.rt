@@ -139,7 +139,7 @@ fn port_bytes(port: Port) -> [u8; PORT]
 }
 
 fn put_port(buffer: &mut [u8], port: Port)
-    requires* { do ⌜ port_size ≤ (← ⟦buffer.len()⟧) ⌝ }
+    requires { port_size ≤ length buffer.old }
     ensures buffer_after { buffer.new ≡ placed buffer.old 0 (port_bytes port) }
     ensures octets_len { length port.octets ≡ report_size }
 {
@@ -148,7 +148,7 @@ fn put_port(buffer: &mut [u8], port: Port)
 }
 
 fn put_drive(buffer: &mut [u8], at: usize, drive: Drive)
-    requires* { do ⌜ at + drive_size ≤ (← ⟦buffer.len()⟧) ⌝ }
+    requires { at + drive_size ≤ length buffer.old }
     ensures { buffer.new ≡ placed buffer.old at (drive_bytes drive) }
 {
     let bytes = drive_bytes(drive);
@@ -157,7 +157,7 @@ fn put_drive(buffer: &mut [u8], at: usize, drive: Drive)
 
 // All of a record but its staging block, which stays as it stands there.
 pub fn write_core(buffer: &mut [u8], core: Core)
-    requires* { do ⌜ (← ⟦buffer.len()⟧) ≡ record_size ⌝ }
+    requires { length buffer.old ≡ record_size }
     ensures buffer_after { buffer.new ≡ unit_bytes (unit core (staging_of buffer.old)) }
     ensures sized { Sized (unit core (staging_of buffer.old)) }
 {
@@ -170,7 +170,7 @@ pub fn write_core(buffer: &mut [u8], core: Core)
 
 // A whole record, into a buffer of its size.
 pub fn write_record(buffer: &mut [u8], core: Core, staging: &[u8; BODY])
-    requires* { do ⌜ (← ⟦buffer.len()⟧) ≡ record_size ⌝ }
+    requires { length buffer.old ≡ record_size }
     ensures buffer_after { buffer.new ≡ unit_bytes (unit core staging.now) }
     ensures sized { Sized (unit core staging.now) }
 {
@@ -180,7 +180,7 @@ pub fn write_record(buffer: &mut [u8], core: Core, staging: &[u8; BODY])
 
 // Another phase of a record, and nothing else.
 pub fn write_phase(buffer: &mut [u8], phase: Phase)
-    requires* { do ⌜ (← ⟦buffer.len()⟧) ≡ record_size ⌝ }
+    requires { length buffer.old ≡ record_size }
     ensures { buffer.new ≡ placed buffer.old phase_at (phase_bytes phase) }
 {
     let bytes = phase_bytes(phase);

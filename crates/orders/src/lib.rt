@@ -1,4 +1,6 @@
 // The orders: the code of each, what it needs, and the tests that it is put to; and the room that a block asks for.
+#![tactic(auto)]
+
 mod late;
 mod order;
 

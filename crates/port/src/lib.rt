@@ -1,4 +1,6 @@
 // What the selected drive does: the acts of the host on the port, the staging block, its own record and its own tape, and on nothing else.
+#![tactic(auto)]
+
 mod acts;
 mod edge;
 mod effect;

@@ -1,4 +1,6 @@
 // The report of a drive: its six octets, made from the record and taken by the host.
+#![tactic(auto)]
+
 mod made;
 mod taken;
 

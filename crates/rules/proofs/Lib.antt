@@ -1,4 +1,3 @@
-pub mod Phases
 pub mod Numbers
 pub mod Places
 pub mod Rooms

@@ -1,0 +1,24 @@
+-- The drive by its number; one that is none of 0, 1 and 2 means the last.
+use mathlib.Core.Path.{ap, sym, ◌∙◌}
+use Rattle.basis.specs.Choice.{pick}
+use Rattle.rules.specs.Unit.{one_of}
+use Rattle.rules.proofs.Places.{last_one}
+use Rattle.answers.specs.Looks.{look_of}
+use native.Mathlib.Omega.{arith}
+use Rattle.answers.proofs.looks.look.Goals as goal
+
+pub returns-in-0 : goal.returns-in-0
+unfolding one_of pick
+returns-in-0 c = rw (c.sight.ensures, c.in-0.is)
+
+pub returns-in-1 : goal.returns-in-1
+unfolding one_of pick
+returns-in-1 c = rw (c.sight-in-1.ensures, c.in-1.is)
+
+pub returns-in-2 : goal.returns-in-2
+unfolding one_of pick
+returns-in-2 c = rw (c.sight-in-2.ensures, c.in-2.is)
+
+pub returns-in_default : goal.returns-in_default
+returns-in_default c =
+    c.sight-in_default.ensures ∙ ap look_of (sym (last_one c.args.i _ _ _ _ (λ e. omega (arith, e)) (λ e. omega (arith, e)) (λ e. omega (arith, e))))

@@ -1,0 +1,8 @@
+-- The phase stays.
+use Rattle.basis.specs.Choice.{pick}
+use borrow.Author.Rules.{rules}
+use Rattle.answers.proofs.slots.cartridge_in.Goals as goal
+
+pub returns : goal.returns
+unfolding pick
+returns c = rw (c.put.ensures, c.load-drive.ensures, c.drive.ensures)

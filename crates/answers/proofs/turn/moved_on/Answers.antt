@@ -1,0 +1,5 @@
+use borrow.Author.Rules.{rules}
+use Rattle.answers.proofs.turn.moved_on.Goals as goal
+
+pub returns : goal.returns
+returns c = rw c.moved_to-after.ensures

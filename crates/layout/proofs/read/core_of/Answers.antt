@@ -1,0 +1,19 @@
+-- The port, and each drive from its own stretch.
+use Rattle.layout.specs.Read.{core_of}
+use borrow.Author.Rules.{rules}
+use Rattle.layout.proofs.read.core_of.Goals as goal
+
+pub returns : goal.returns
+unfolding core_of
+returns c =
+    rw (
+      c.drive_of-drive3.ensures,
+      c.drive_part-4.ensures,
+      c.drive_of-drive2.ensures,
+      c.drive_part-3.ensures,
+      c.drive_of-drive1.ensures,
+      c.drive_part-2.ensures,
+      c.drive_of-drive0.ensures,
+      c.drive_part.ensures,
+      c.port_in-port.ensures,
+    )

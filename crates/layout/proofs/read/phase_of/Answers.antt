@@ -1,0 +1,21 @@
+-- The tests on the byte choose as the definition does.
+use Rattle.layout.specs.Read.{phase_of}
+use Rattle.basis.specs.Choice.{pick}
+use Rattle.basis.specs.Tests.{tests}
+use Rattle.layout.proofs.read.phase_of.Goals as goal
+
+pub returns-then-b-eq0 : goal.returns-then-b-eq0
+unfolding pick phase_of
+returns-then-b-eq0 c = search tests
+
+pub returns-then-b-eq1 : goal.returns-then-b-eq1
+unfolding pick phase_of
+returns-then-b-eq1 c = search tests
+
+pub returns-then-b-eq2 : goal.returns-then-b-eq2
+unfolding pick phase_of
+returns-then-b-eq2 c = search tests
+
+pub returns-else-b-eq2 : goal.returns-else-b-eq2
+unfolding pick phase_of
+returns-else-b-eq2 c = search tests

@@ -1,0 +1,7 @@
+use Rattle.layout.specs.Read.{core_of}
+use borrow.Author.Rules.{rules}
+use Rattle.layout.proofs.read.port_in.Goals as goal
+
+pub returns : goal.returns
+unfolding core_of
+returns c = rw (c.port_of.ensures, c.port_part.ensures)

@@ -1,0 +1,6 @@
+-- The array has what the calls made, byte for byte as a phase is laid out.
+use borrow.Author.Rules.{rules}
+use Rattle.layout.proofs.write.phase_bytes.Goals as goal
+
+pub returns : goal.returns
+returns c = rw (c.which.ensures, c.eight-n.ensures, c.how_far.ensures)

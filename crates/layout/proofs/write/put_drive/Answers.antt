@@ -1,0 +1,7 @@
+-- What is put is the drive's bytes.
+use borrow.Author.Rules.{rules}
+use Rattle.layout.proofs.write.put_drive.Goals as goal
+
+pub returns : goal.returns
+returns c =
+    rw c.drive_bytes-bytes.ensures at c.put.ensures

@@ -1,0 +1,5 @@
+use borrow.Author.Rules.{rules}
+use Rattle.layout.proofs.write.write_phase.Goals as goal
+
+pub returns : goal.returns
+returns c = rw c.phase_bytes-bytes.ensures at c.put.ensures

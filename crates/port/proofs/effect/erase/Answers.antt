@@ -1,0 +1,5 @@
+use borrow.Author.Rules.{rules}
+use Rattle.port.proofs.effect.erase.Goals as goal
+
+pub returns : goal.returns
+returns c = rw (c.rests.ensures, c.rewind.ensures, c.erase.ensures)

@@ -1,0 +1,34 @@
+use Prim.Native.Nat.{◌+◌}
+use Rattle.rules.specs.Order.{mark_room}
+use Rattle.tape.proofs.Answers.{next_means, no_room_means}
+use Rattle.basis.specs.Choice.{pick}
+use Rattle.tape.specs.Record.{mark_record, mark_size}
+use borrow.Author.Rules.{rules}
+use borrow.Author.Tests.{le-leb, lt-leb}
+use lib.ListN.{length}
+use Rattle.port.proofs.effect.write_mark.Goals as goal
+
+pub returns-in-Next : goal.returns-in-Next
+unfolding pick
+returns-in-Next c =
+    let a = c.args in
+    let w = rw c.in-Next.is at
+    c.record_mark-made.ensures in
+    let m = next_means a.tape.now a.drive.head mark_size 0 mark_record _ _ w in
+    rw (
+      c.rests.ensures,
+      c.in_mode.ensures,
+      c.made.ensures,
+      le-leb (a.drive.head + mark_room)
+          (length a.tape.now) m.room,
+      m.next_is,
+      m.tape_is,
+    )
+
+pub returns-in-NoRoom : goal.returns-in-NoRoom
+unfolding pick
+returns-in-NoRoom c =
+    let a = c.args in
+    let w = rw c.in-NoRoom.is at c.record_mark-made.ensures in
+    let m = no_room_means a.tape.now a.drive.head mark_size 0 mark_record _ w in
+    rw (c.rests-in-NoRoom.ensures, c.stop.ensures, lt-leb (a.drive.head + mark_room) (length a.tape.now) m.full, m.tape_is)

@@ -1,0 +1,5 @@
+use borrow.Author.Rules.{rules}
+use Rattle.port.proofs.moved.rests.Goals as goal
+
+pub returns : goal.returns
+returns c = rw (c.leaves.ensures, c.at_phase.ensures)

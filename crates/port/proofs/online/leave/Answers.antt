@@ -1,0 +1,18 @@
+use Rattle.port.proofs.Level.{leaving_else, leaving_writing}
+use Rattle.rules.specs.Effect.{seat}
+use Rattle.basis.specs.Tests.{told}
+use borrow.Author.Rules.{rules}
+use mathlib.Core.Path.{◌∙◌}
+use Rattle.port.proofs.online.leave.Goals as goal
+
+pub returns-then-is_writing : goal.returns-then-is_writing
+returns-then-is_writing c =
+    let a = c.args in
+    c.leave_writing.ensures
+    ∙ leaving_writing (seat a.port a.drive a.tape.now) a.drive.mode (told c.is_writing.ensures c.if-is_writing.true)
+
+pub returns : goal.returns
+returns c =
+    let a = c.args in
+    rw (c.falls.ensures, c.rewind.ensures, c.in_mode.ensures)
+    (leaving_else (seat a.port a.drive a.tape.now) a.drive.mode (told c.is_writing.ensures c.if-is_writing.false))

@@ -1,0 +1,13 @@
+use Rattle.rules.specs.Bytes.{octet_taken}
+use borrow.Author.Rules.{rules}
+use Rattle.port.proofs.taken.take_octet.Goals as goal
+
+pub returns : goal.returns
+unfolding octet_taken
+returns c =
+    λ t. rw (
+      c.hands.ensures,
+      c.at_phase.ensures,
+      c.after_octet.ensures,
+      c.next_octet.ensures,
+    )
