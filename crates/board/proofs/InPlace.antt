@@ -18,7 +18,7 @@ use Rattle.rules.specs.Step.{staged, Steps}
 use Rattle.answers.specs.Moved.{moved_on}
 use Rattle.unit.specs.declared.within.Inside.{Inside}
 use Rattle.unit.specs.Within.{inside_of}
-use Rattle.unit.proofs.Inside.{inside_steps}
+use Rattle.unit.proofs.InBlock.{inside_steps}
 use Rattle.layout.specs.Written.{flag, record_size, phase_at, phase_bytes}
 use Rattle.layout.specs.Read.{stretch, is_record, port_of, core_of, staging_of}
 use Rattle.layout.specs.Laws.{Octets}

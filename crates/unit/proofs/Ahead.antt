@@ -34,7 +34,7 @@ use Rattle.rules.proofs.Handing.{taken_at, take_event}
 use Rattle.port.proofs.Whole.{whole}
 use Rattle.answers.specs.Moved.{moved_on}
 use Rattle.unit.specs.Ahead.{ahead_of, given_ahead, read_ahead, taken_ahead, next_bytes, glided, GivenGlide, TakenGlide}
-use Rattle.unit.proofs.Inside.{byte_given_lem, byte_taken_lem, giving_at}
+use Rattle.unit.proofs.InBlock.{byte_given_lem, byte_taken_lem, giving_at}
 
 -- a count that is not 0 tells which it is
 some_picked : (b : Bool) (x k : ℕ) → k ≡ pick b x 0 → 1 ≤ k → (b ≡ true) × (k ≡ x)

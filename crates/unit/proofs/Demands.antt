@@ -48,6 +48,8 @@ record Seen (k : Change) (d : ℕ) (w : World) (es : List (List ℕ)) (rs : List
 seen : (k : Change) (d : ℕ) (w w' : World) (es : List (List ℕ)) (rs : List Turn) → Ran w es rs w' → Seen k d w es rs
 unfolding reaches gave
 seen k d w w' [] [] no_events = record { reached_is = refl; gave_is = refl }
+seen k d w w' [] (r ∷ rs) none = elim none [ ]
+seen k d w w' (e ∷ es) [] none = elim none [ ]
 seen k d w w' (e ∷ es) (r ∷ rs) (next {c} {l} {l'} p q) =
     let one = steps_are_the_books c l e r l' p in
     let rest = seen k d (world r.core l') w' es rs q in

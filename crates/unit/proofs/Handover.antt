@@ -33,6 +33,8 @@ last_append x (r ∷ rs) ts = last_append r rs ts
 
 pub up_to_on : (w w' : World) (es fs : List (List ℕ)) (rs : List Turn) → Ran w es rs w' → AllTaken rs → up_to w (es ++ fs) ≡ es ++ up_to w' fs
 up_to_on w w' [] fs [] no_events all = refl
+up_to_on w w' [] fs (r ∷ rs) none all = elim none [ ]
+up_to_on w w' (e ∷ es) fs [] none all = elim none [ ]
 up_to_on w w' (e ∷ es) fs (r ∷ rs) (next {c} {l} {l'} p more) all =
     let one = steps_are_the_books c l e r l' p in
     let zero : is_zero (turn_of (world c l) e) ≡ true = ap is_zero one.answered ∙ rw all.0 refl in

@@ -6,4 +6,4 @@ pub mod Ahead
 pub mod Legs
 pub mod Completed
 mod Settling
-pub mod Inside
+pub mod InBlock

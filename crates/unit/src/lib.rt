@@ -1,4 +1,6 @@
 // Four drives on one cable: the step that answers an event, and loops over it.
+#![tactic(auto)]
+
 mod many;
 mod own;
 mod steps;

@@ -1,0 +1,5 @@
+use borrow.Author.Rules.{rules}
+use Rattle.unit.proofs.many.answered_0.Goals as goal
+
+pub returns : goal.returns
+returns c = rw c.number.ensures

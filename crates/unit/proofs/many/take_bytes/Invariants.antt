@@ -1,0 +1,27 @@
+-- Leg after leg, each byte taken is put behind those before it.
+use Prim.Native.Nat.{◌≤◌, ◌-◌}
+use mathlib.Core.Path.{◌≡◌, refl, sym, ap, ◌∙◌}
+use mathlib.Core.List.{List, []}
+use native.Mathlib.Omega.{arith}
+use lib.ListN.{length}
+use borrow.Author.Rules.{rules}
+use borrow.Author.Tests.{not-true}
+use Rattle.basis.specs.Placed.{placed}
+use Rattle.basis.proofs.Choosing.{not_not}
+use Rattle.basis.proofs.Placing.{placed_none}
+use Rattle.rules.specs.declared.answer.Turn.{Turn}
+use Rattle.rules.specs.Unit.{lent}
+use Rattle.rules.specs.Run.{taken_times}
+use Rattle.rules.specs.Promises.Strike.{handed_out}
+use Rattle.unit.specs.Handover.{went_out}
+use Rattle.unit.proofs.Handover.{Standing, begins, begun, all_sizes}
+use Rattle.unit.proofs.Legs.{taken_on, taken_stops, taken_ends}
+use Rattle.unit.proofs.many.take_bytes.Given as goal
+
+abbrev pub invariant-loop-count : goal.invariant-loop-count
+invariant-loop-count l = Standing went_out l.initial.last.core (lent l.initial.staging l.initial.tape0 l.initial.tape1 l.initial.tape2 l.initial.tape3) (taken_times (length l.initial.out)) l.count l.last
+    (lent l.staging l.tape0 l.tape1 l.tape2 l.tape3) (taken_times (length l.initial.out - l.count)) (λ (rs : List Turn). l.out ≡ placed l.initial.out 0 (handed_out rs))
+    × ((l.count ≤ length l.initial.out) × (length l.out ≡ length l.initial.out))
+
+abbrev pub decreases-loop-count : goal.decreases-loop-count
+decreases-loop-count l = length l.out - l.count
