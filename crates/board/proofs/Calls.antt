@@ -68,6 +68,8 @@ left_again l' t' c g left sized =
 
 pub calls_run : CallsRun
 calls_run l l' t t' [] [] so no_call = record { turns = []; ran = no_events; results = refl; still = so }
+calls_run l l' t t' [] (out ∷ outs) so none = elim none [ ]
+calls_run l l' t t' (event ∷ events) [] so none = elim none [ ]
 calls_run l l' t t' (event ∷ events) (out ∷ outs) so (next_call {l' = l₁} {t' = t₁} (Serves.of_none none p) rest) = absurd (false≢true (sym none ∙ so))
 calls_run l l' t t' (event ∷ events) (out ∷ outs) so (next_call {l' = l₁} {t' = t₁} (Serves.of_record is p) rest) =
     let again = left_again l₁ t₁ p.turn.core p.staging p.left p.sized in

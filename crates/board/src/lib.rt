@@ -1,4 +1,6 @@
 // The unit for C and Rust: one event step on a record that lies as bytes in a lent buffer.
+#![tactic(auto)]
+
 mod exports;
 mod judge;
 mod many;

@@ -20,7 +20,7 @@ use unit::{Inside, step_lent, within_block};
 
 // A byte within a block: it is staged, and the phase written, where they stand.
 fn move_on(buffer: &mut [u8], phase: Phase, byte: Inside) -> [u8; RESULT]
-    requires* { do ⌜ (← ⟦buffer.len()⟧) ≡ record_size ⌝ }
+    requires { length buffer.old ≡ record_size }
     ensures value { result ≡ (row_of Taken).number ∷ flag byte.given ∷ byte.byte
         ∷ lines_bytes (record { ready = false; exception = false; direction = byte.given }) }
     ensures buffer_after { buffer.new ≡ placed (take 146 buffer.old ++ staged phase byte.act (staging_of buffer.old))
@@ -36,7 +36,7 @@ fn move_on(buffer: &mut [u8], phase: Phase, byte: Inside) -> [u8; RESULT]
 
 // What a turn left, written back beside the staging block; and what it tells.
 pub(crate) fn write_turn(buffer: &mut [u8], turn: Turn) -> [u8; RESULT]
-    requires* { do ⌜ (← ⟦buffer.len()⟧) ≡ record_size ⌝ }
+    requires { length buffer.old ≡ record_size }
     ensures value { result ≡ result_bytes turn }
     ensures buffer_after { buffer.new ≡ unit_bytes (unit turn.core (staging_of buffer.old)) }
     ensures sized { Sized (unit turn.core (staging_of buffer.old)) }

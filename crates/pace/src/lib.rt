@@ -1,4 +1,6 @@
 // Loops over the step, for a program in C that takes their time.
+#![tactic(auto)]
+
 ghost use Rattle.std.specs.Prelude.{◌≡◌, length};
 ghost use Rattle.tape.specs.Record.{body_size};
 ghost use Rattle.rules.specs.Unit.{lent, fresh_core};

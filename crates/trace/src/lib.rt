@@ -1,4 +1,6 @@
 // Raw traces: where each event ends, what a run over them leaves, and the text that tells of it.
+#![tactic(auto)]
+
 mod cut;
 mod line;
 mod rest;

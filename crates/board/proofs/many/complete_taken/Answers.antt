@@ -1,0 +1,65 @@
+-- All but the last byte by one copy and the phase written where it stands; the last byte by the step.
+use Prim.Native.Nat.{ℕ, ◌+◌, ◌≤◌}
+use mathlib.Core.Path.{◌≡◌, sym, ap, ◌∙◌}
+use mathlib.Core.List.{List}
+use native.Mathlib.Omega.{arith}
+use Rattle.basis.specs.Placed.{placed}
+use Rattle.basis.proofs.Placing.{placed_none}
+use Rattle.rules.specs.declared.phase.Phase.TheVariants.{Giving}
+use Rattle.rules.specs.declared.unit.Port.{Port}
+use Rattle.rules.specs.Phase.{taken_before}
+use Rattle.layout.specs.Written.{phase_at, phase_bytes}
+use Rattle.layout.specs.Read.{core_of, staging_of}
+use Rattle.layout.proofs.Form.{record_long}
+use Rattle.board.specs.Serve.{tapes}
+use Rattle.board.proofs.Ended.{all_but_one, read_most, still_record, own_staging, staging_long, taken_served}
+use borrow.Author.Rules.{rules}
+use Rattle.board.proofs.many.complete_taken.Goals as goal
+
+pub drive_in-drive-requires : goal.drive_in-drive-requires
+drive_in-drive-requires c = record_long c.args.buffer.now c.requires.0
+
+pub returns-then-k-eq0 : goal.returns-then-k-eq0
+returns-then-k-eq0 c = let same = rw c.if-k-eq0.true at c.read_on-k.ensures.bytes ∙ placed_none _ 0 in rw (same) at c.take_all.ensures
+
+pub overflow_add-taken_before : goal.overflow_add-taken_before
+overflow_add-taken_before c =
+    let most = read_most _ _ _ _ _ c.requires.1.1.1 c.read_on-k.ensures.count (omega (arith, c.if-k-eq0.false)) in
+    omega (arith, most, (all_but_one _ _ _ c.requires.1.1.1).place, c.taken_before.ensures)
+
+pub write_phase-requires : goal.write_phase-requires
+write_phase-requires c = record_long c.args.buffer.now c.requires.0
+
+pub serve_step-requires : goal.serve_step-requires
+serve_step-requires c =
+    let l = c.args.buffer.now in
+    let so = c.requires.0 in
+    let ph = Giving (c.taken_before.result + c.read_on-k.result) in
+    let is = c.write_phase.ensures ∙ ap (λ (x : List ℕ). placed x phase_at (phase_bytes ph)) (sym (own_staging l so)) in
+    still_record l (λ i. search rules) so ph (staging_of l) (staging_long l so) _ is
+
+pub keep_last-requires : goal.keep_last-requires
+keep_last-requires c =
+    let all = all_but_one _ _ _ c.requires.1.1.1 in
+    let most = read_most _ _ _ _ _ c.requires.1.1.1 c.read_on-k.ensures.count (omega (arith, c.if-k-eq0.false)) in
+    (omega (arith, most, all.place, all.two), omega (arith, most, all.two, c.read_on-k.auto.out))
+
+pub returns : goal.returns
+returns c =
+    let a = c.args in
+    let l = a.buffer.now in
+    let pre = c.requires in
+    let port = pre.1.1.0 in
+    let k = c.read_on-k.result in
+    let front = c.read_on-k.new.out in
+    let n = taken_before (core_of l).port.phase in
+    let before : c.taken_before.result ≡ n = c.taken_before.ensures ∙ ap (λ (p : Port). taken_before p.phase) port in
+    let took = rw (c.drive_in-drive.ensures, port) at c.read_on-k.ensures in
+    let some : 1 ≤ k = omega (arith, c.if-k-eq0.false) in
+    let is =
+    rw (before) at c.write_phase.ensures ∙ ap (λ (x : List ℕ). placed x phase_at (phase_bytes (Giving (n + k)))) (sym (own_staging l pre.0)) in
+    let kept = c.keep_last.ensures in
+    let sizes = c.serve_step.auto in
+    taken_served l (tapes a.tape0.now a.tape1.now a.tape2.now a.tape3.now) _ _ _ _ (λ i. search rules) pre.0
+    pre.1.0 (record { size0 = sizes.tape0; size1 = sizes.tape1; size2 = sizes.tape2; size3 = sizes.tape3 }) a.bytes.now front _ k _
+    (rw (port) at pre.1.1.1) took c.read_on-k.auto.out some is c.serve_step.ensures kept.1 kept.0

@@ -1,0 +1,6 @@
+-- Six bytes, each from its own call.
+use borrow.Author.Rules.{rules}
+use Rattle.board.proofs.result.result_bytes.Goals as goal
+
+pub returns : goal.returns
+returns c = rw (c.flag.ensures, c.number.ensures, c.lines_bytes-l.ensures)

@@ -1,0 +1,10 @@
+-- The loop from a fresh unit.
+use Rattle.pace.proofs.Turns.{paced_of}
+use borrow.Author.Rules.{rules}
+use Rattle.pace.proofs.pace_unit.Goals as goal
+
+pub returns : goal.returns
+returns c =
+    let a = c.args in
+    paced_of a.tape0.now a.tape1.now a.tape2.now a.tape3.now a.pairs.now _ _ _ _ _ _
+    (rw c.fresh.ensures at c.run_unit-after.ensures)

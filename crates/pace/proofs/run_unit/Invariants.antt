@@ -1,0 +1,19 @@
+-- What is left to run from pair i comes to the whole run.
+use Prim.Native.Nat.{◌≤◌, ◌-◌, ◌+◌}
+use mathlib.Core.Path.{refl}
+use native.Mathlib.Omega.{arith}
+use lib.ListN.{length, drop}
+use Rattle.rules.specs.Unit.{lent}
+use Rattle.rules.specs.Ran.{UnderWay}
+use Rattle.rules.proofs.Ran.{loop_laws}
+use Rattle.pace.specs.Pairs.{pairs_of}
+use Rattle.pace.proofs.Turns.{pairs_cut, pairs_end}
+use borrow.Author.Rules.{rules}
+use Rattle.pace.proofs.run_unit.Given as goal
+
+abbrev pub invariant-loop-i : goal.invariant-loop-i
+invariant-loop-i l = UnderWay l.initial.after.core (lent l.initial.after.staging l.initial.tape0 l.initial.tape1 l.initial.tape2 l.initial.tape3) (pairs_of l.pairs) l.after.core (lent l.after.staging l.tape0 l.tape1 l.tape2 l.tape3) (pairs_of (drop l.i l.pairs))
+    × (l.i ≤ length l.pairs)
+
+abbrev pub decreases-loop-i : goal.decreases-loop-i
+decreases-loop-i l = length l.pairs - l.i
