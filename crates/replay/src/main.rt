@@ -1,8 +1,8 @@
 // Runs a raw trace from standard input on a fresh unit with four blank tapes, and shows each answer as a line.
 ghost use Rattle.std.specs.Prelude.{◌≤◌, length};
 
-use libc::{STDIN_FILENO, STDOUT_FILENO};
 use rules::Core;
+use std::io::{Eprint, Input, Print, Read};
 use tape::BODY;
 use trace::Halt;
 
@@ -22,12 +22,14 @@ struct Piece {
 }
 
 // Writes to standard output, or says why it cannot.
-fn write(text: &[u8]) -> bool {
-    let done = io::write_all(STDOUT_FILENO, text);
-    if !done {
-        os::fail(b"standard output");
+fn write<R: Print + Eprint>(rt: &R, text: &[u8]) -> bool {
+    match rt.write_all(text) {
+        Ok(()) => true,
+        Err(e) => {
+            let _ = eprintln!(rt; "standard output: {e}");
+            false
+        }
     }
-    done
 }
 
 // Nothing more is run.
@@ -43,30 +45,38 @@ fn over() -> Piece
 }
 
 // Reads once, behind what was left over. A read that fails is said, and what was left over is no event.
-fn read_more(input: &mut [u8], from: usize, to: usize) -> Piece
+fn read_more<R: Input + Eprint>(rt: &R, input: &mut [u8], from: usize, to: usize) -> Piece
     ensures { (result.from ≤ result.to) × (result.to ≤ length input.old) }
 {
     let rest = trace::keep_rest(input, from, to);
-    let got = libc::read(STDIN_FILENO, &mut input[rest..]);
-    if got < 0 {
-        os::fail(b"standard input");
-        return over();
-    }
-    let n = io::count(got, &input[rest..]);
-    Piece {
-        from: 0,
-        to: rest + n,
-        ending: got == 0,
-        going: true,
+    match rt.reader().read(&mut input[rest..]) {
+        Ok(n) => Piece {
+            from: 0,
+            to: rest + n,
+            ending: n == 0,
+            going: true,
+        },
+        Err(e) => {
+            let _ = eprintln!(rt; "standard input: {e}");
+            over()
+        }
     }
 }
 
 // Writes the lines of a run, and goes by why it halted.
-fn go_on(halt: Halt, lines: &[u8], input: &mut [u8], from: usize, to: usize, ending: bool) -> Piece
+fn go_on<R: Input + Print + Eprint>(
+    rt: &R,
+    halt: Halt,
+    lines: &[u8],
+    input: &mut [u8],
+    from: usize,
+    to: usize,
+    ending: bool,
+) -> Piece
     requires { (from ≤ to) × (to ≤ length input.old) }
     ensures { (result.from ≤ result.to) × (result.to ≤ length input.old) }
 {
-    if write(lines) {
+    if write(rt, lines) {
         match halt {
             Halt::RoomOut => Piece {
                 from,
@@ -77,7 +87,7 @@ fn go_on(halt: Halt, lines: &[u8], input: &mut [u8], from: usize, to: usize, end
             Halt::InputOut => if ending {
                 over()
             } else {
-                read_more(input, from, to)
+                read_more(rt, input, from, to)
             },
             Halt::Stopped => over(),
         }
@@ -87,7 +97,8 @@ fn go_on(halt: Halt, lines: &[u8], input: &mut [u8], from: usize, to: usize, end
 }
 
 // Runs and reads by turns, and answers how many events were answered. The turns fall from a number that no run uses up.
-fn replay(
+fn replay<R: Input + Print + Eprint>(
+    rt: &R,
     staging: &mut [u8; BODY],
     tape0: &mut [u8],
     tape1: &mut [u8],
@@ -118,7 +129,15 @@ fn replay(
         );
         let halt = run.halt;
         let written = run.written;
-        let next = go_on(halt, &out[..written], input, from + run.used, to, ending);
+        let next = go_on(
+            rt,
+            halt,
+            &out[..written],
+            input,
+            from + run.used,
+            to,
+            ending,
+        );
         core = run.core;
         count = run.count;
         from = next.from;
@@ -130,7 +149,7 @@ fn replay(
     count
 }
 
-fn main() {
+fn main(rt: HostRuntime) {
     let mut staging = [0u8; BODY];
     let mut tape0 = [0u8; TAPE];
     let mut tape1 = [0u8; TAPE];
@@ -138,9 +157,9 @@ fn main() {
     let mut tape3 = [0u8; TAPE];
     let mut input = [0u8; PIECE];
     let mut out = [0u8; PIECE];
-    let mut digits = [0u8; 20];
-    if write(b"tape unit, 4 drives\n") {
+    if write(&rt, b"tape unit, 4 drives\n") {
         let count = replay(
+            &rt,
             &mut staging,
             &mut tape0,
             &mut tape1,
@@ -149,9 +168,8 @@ fn main() {
             &mut input,
             &mut out,
         );
-        let k = io::decimal(count, &mut digits);
-        if write(&digits[..k]) {
-            write(b" events\n");
+        if let Err(e) = println!(rt; "{count} events") {
+            let _ = eprintln!(rt; "standard output: {e}");
         }
     }
 }
