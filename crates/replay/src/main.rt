@@ -1,4 +1,6 @@
 // Runs a raw trace from standard input on a fresh unit with four blank tapes, and shows each answer as a line.
+#![tactic(auto)]
+
 ghost use Rattle.std.specs.Prelude.{◌≤◌, length};
 
 use rules::Core;

@@ -9,7 +9,7 @@ use lib.ListN.{length, set, take, length-set}
 use borrow.Author.Tests.{not-true}
 use Rattle.basis.specs.Choice.{pick}
 use Rattle.tape.specs.Record.{mark_record, block_record}
-use Rattle.tape.specs.Recording.{recorded, erased}
+use Rattle.tape.specs.Recording.{erased}
 use Rattle.tape.proofs.Recorded.{recorded_before, recording_keeps}
 use Rattle.rules.specs.declared.drive.Drive.{Drive}
 use Rattle.rules.specs.declared.drive.Mode.TheVariants.{Writing}

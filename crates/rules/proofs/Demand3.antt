@@ -1,7 +1,7 @@
 -- Demand 3: a run, as drive d sees it, is a run of the events that reach it.
 use Prim.Native.Nat.{ℕ, ◌≤◌}
 use mathlib.Core.Path.{◌≡◌, refl, sym, ap, ap₂, subst, ◌∙◌}
-use mathlib.Core.Bool.{Bool, true, false, not, ◌&&◌, ◌||◌, true≢false, false≢true}
+use mathlib.Core.Bool.{Bool, true, false, ◌&&◌, ◌||◌, true≢false, false≢true}
 use mathlib.Core.List.{List, [], ◌∷◌, ◌++◌}
 use mathlib.Core.Option.{Option, none, some}
 use lib.Dec.{eqb}
@@ -19,7 +19,7 @@ use Rattle.rules.specs.Event.{event_of}
 use Rattle.rules.specs.Refusal.{short, refusal_in}
 use Rattle.rules.specs.Phase.{given_before}
 use Rattle.rules.specs.Step.{Stepped, settled, step_of}
-use Rattle.rules.specs.Run.{World, world, after, run, turn_of, fresh_world}
+use Rattle.rules.specs.Run.{World, after, run, turn_of, fresh_world}
 use Rattle.rules.specs.Reach.{Change, real_change, any_level, changes, selects, answered, accepted, reaches_by, reaches, Shown, Gave, gave_by, gave, only_if, reached, given}
 use Rattle.rules.specs.Promises.Demand3.{Pending, octets_in, pending, Alike, SameFate, Demand3For, Demand3, Demand3AnyLevel, OthersDoNotMatter}
 use Rattle.rules.proofs.Sound.{Sound, sound}

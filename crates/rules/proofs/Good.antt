@@ -33,7 +33,7 @@ use Rattle.rules.specs.Late.{one_less}
 use Rattle.rules.specs.Unit.{at_phase}
 use Rattle.rules.specs.Refusal.{mode_fits, possible_phase}
 use Rattle.rules.specs.Edge.{halted, spoilt, edged, checked, standing}
-use Rattle.rules.specs.Effect.{Seat, Acted, leaves}
+use Rattle.rules.specs.Effect.{Seat, Acted}
 use Rattle.rules.specs.Bytes.{after_octet}
 use Rattle.basis.proofs.Choosing.{both, join, not_not}
 use Rattle.rules.proofs.Sound.{Fit, SoundSeat, idle_fits}

@@ -23,7 +23,7 @@ use Rattle.rules.specs.declared.drive.Bit.TheVariants.{Cni, Eom, Ude, Bnl, Fil, 
 use Rattle.rules.specs.declared.phase.Phase.TheVariants.{Rest, Taking, Giving}
 use Rattle.rules.specs.declared.event.Act.{Act}
 use Rattle.rules.specs.declared.event.Act.TheVariants.{Command, Give, Take, Online, Offline}
-use Rattle.rules.specs.Drive.{with_bit, in_mode, made, passed_to, writes}
+use Rattle.rules.specs.Drive.{with_bit, in_mode, passed_to, writes}
 use Rattle.rules.specs.Promises.Changes.{block_asks}
 use Rattle.rules.specs.Phase.{at_rest}
 use Rattle.rules.specs.Edge.{is_block, halted, spoilt, edged, checked, standing}

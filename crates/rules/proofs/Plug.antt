@@ -16,7 +16,6 @@ use Rattle.rules.specs.Promises.Plug.{means_drive, acts_on_no_tape, OtherTapesSt
 use Rattle.rules.proofs.Places.{Got, same, other}
 use Rattle.rules.proofs.Sound.{Sound}
 use Rattle.rules.proofs.Codes.{named_real}
-use Rattle.rules.proofs.Leaves
 use Rattle.rules.proofs.StepBy.{step_by_lem, sound_step}
 use Rattle.rules.proofs.Keeps.{own_tape_lem}
 use Rattle.rules.proofs.Status.{own_drive, named_drive}

@@ -16,7 +16,7 @@ use Rattle.rules.specs.Event.{event_of}
 use Rattle.rules.specs.Answer.{row_of}
 use Rattle.rules.specs.Refusal.{refusal_in}
 use Rattle.rules.specs.Lines.{lines_of, lines_down}
-use Rattle.rules.specs.Step.{Stepped, act, staged_in, seat_of, done, refused, effect_of}
+use Rattle.rules.specs.Step.{Stepped, staged_in, seat_of, done, effect_of}
 use Rattle.rules.specs.Promises.Refused.{AsFound, RefusedKeeps, LinesDownAfter5, LinesOfTheRecord, ByteRules, BytesExactly}
 use Rattle.rules.proofs.Sound.{Sound}
 use Rattle.rules.proofs.Leaves

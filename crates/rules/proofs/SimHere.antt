@@ -22,7 +22,7 @@ use Rattle.rules.specs.Answer.{row_of}
 use Rattle.rules.specs.Refusal.{in_step_at, slot_answer, refusal_in}
 use Rattle.rules.specs.Effect.{Seat, seat, Acted}
 use Rattle.rules.specs.Slot.{befallen, is_out, phase_after}
-use Rattle.rules.specs.Step.{act, staged, staged_in, seat_of, done, refused, effect_of, settled}
+use Rattle.rules.specs.Step.{act, staged, staged_in, seat_of, refused, effect_of, settled}
 use Rattle.rules.specs.Run.{world}
 use Rattle.rules.specs.Reach.{Change, reaches_by}
 use Rattle.rules.proofs.Places.{put_there}

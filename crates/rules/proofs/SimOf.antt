@@ -1,7 +1,7 @@
 -- What drive d shows of a step, and small laws of what is told, dropped and reached.
 use Prim.Native.Nat.{ℕ}
 use mathlib.Core.Path.{◌≡◌, refl, sym, ap, ap₂, ◌∙◌}
-use mathlib.Core.Bool.{Bool, true, false, not, ◌&&◌, ◌||◌, true≢false, false≢true}
+use mathlib.Core.Bool.{Bool, true, false, ◌&&◌, ◌||◌, true≢false, false≢true}
 use mathlib.Core.List.{List}
 use mathlib.Core.Option.{Option, none, some}
 use lib.Dec.{eqb}
@@ -16,7 +16,6 @@ use Rattle.rules.specs.declared.unit.Port.{Port}
 use Rattle.rules.specs.declared.unit.Core.{Core}
 use Rattle.rules.specs.declared.event.Act.{Act}
 use Rattle.rules.specs.declared.event.Act.TheVariants.{Command, Give, Take, Online, Offline}
-use Rattle.rules.specs.declared.event.What.{What}
 use Rattle.rules.specs.declared.event.Event.{Event}
 use Rattle.rules.specs.declared.event.Event.TheVariants.{Own}
 use Rattle.rules.specs.declared.answer.Answer.{Answer}
@@ -26,13 +25,11 @@ use Rattle.rules.specs.Drive.{was_reset}
 use Rattle.rules.specs.Unit.{Lent, one_of, drive_at, at_phase, reset_core}
 use Rattle.rules.specs.Refusal.{possible_phase, in_step_at, refusal_in}
 use Rattle.rules.specs.Lines.{lines_at, lines_of}
-use Rattle.rules.specs.Online.{dropped}
 use Rattle.rules.specs.Slot.{part_dropped}
-use Rattle.rules.specs.Step.{Stepped, act, done, refused}
+use Rattle.rules.specs.Step.{Stepped, done}
 use Rattle.rules.specs.Run.{World, world}
 use Rattle.rules.specs.Reach.{Change, changes, selects, answered, accepted, Shown, compared_away}
 use Rattle.rules.specs.Promises.Demand3.{octets_in}
-use Rattle.basis.proofs.Choosing.{both}
 use Rattle.rules.proofs.Places.{put_there}
 use Rattle.rules.proofs.Sight.{quiet, here_port, blank, staging_in, staging_by, look, seen_here, staging_here, staging_away, here_same, staging_twice, octets_twice}
 

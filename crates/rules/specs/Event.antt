@@ -1,5 +1,5 @@
 -- Events: one byte of kind and its body. What a string of bytes of any length means.
-use Rattle.std.specs.Prelude.{ℕ, ◌-◌, Bool, true, false, List, length, get_or, ltb, leb, eqb}
+use Rattle.std.specs.Prelude.{ℕ, ◌-◌, true, false, List, length, get_or, ltb, leb, eqb}
 use Rattle.basis.specs.Choice.{pick}
 use Rattle.rules.specs.declared.event.Act.TheVariants.{Command, Give, Take, Online, Offline}
 use Rattle.rules.specs.declared.event.What.{What}

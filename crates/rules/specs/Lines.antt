@@ -1,5 +1,5 @@
 -- The three lines, by the phase and the selected drive.
-use Rattle.std.specs.Prelude.{Bool, true, false, not, ◌&&◌, ◌||◌}
+use Rattle.std.specs.Prelude.{false, not, ◌&&◌, ◌||◌}
 use Rattle.rules.specs.declared.phase.Phase.{Phase}
 use Rattle.rules.specs.declared.unit.Core.{Core}
 use Rattle.rules.specs.declared.drive.Drive.{Drive}

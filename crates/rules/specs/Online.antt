@@ -1,7 +1,6 @@
 -- ONLINE raised and dropped.
 use Rattle.std.specs.Prelude.{ℕ, ◌+◌, Bool, true, false, List, length, leb}
 use Rattle.basis.specs.Choice.{pick}
-use Rattle.rules.specs.declared.drive.Drive.{Drive}
 use Rattle.rules.specs.declared.drive.Mode.{Mode}
 use Rattle.rules.specs.declared.drive.Mode.TheVariants.{Idle, Writing, Reading}
 use Rattle.rules.specs.declared.drive.Bit.TheVariants.{Eom}

@@ -1,5 +1,5 @@
 -- What refuses an event: 5, 6, 4, 2, 3, tried in that order.
-use Rattle.std.specs.Prelude.{ℕ, Bool, true, false, not, ◌&&◌, ◌||◌, List, length, leb, eqb}
+use Rattle.std.specs.Prelude.{ℕ, Bool, true, false, not, ◌&&◌, ◌||◌, length, leb, eqb}
 use Rattle.basis.specs.Choice.{pick}
 use Rattle.tape.specs.Record.{longest}
 use Rattle.rules.specs.declared.drive.Drive.{Drive}
@@ -15,7 +15,7 @@ use Rattle.rules.specs.declared.event.What.TheVariants.{In, Out, Error, Underrun
 use Rattle.rules.specs.declared.event.Event.{Event}
 use Rattle.rules.specs.declared.event.Event.TheVariants.{NoEvent, Reset, Named, Own}
 use Rattle.rules.specs.declared.answer.Answer.{Answer}
-use Rattle.rules.specs.declared.answer.Answer.TheVariants.{Taken, Raised, OutOfStep, WrongSlot, Malformed, Impossible, TooLong}
+use Rattle.rules.specs.declared.answer.Answer.TheVariants.{Taken, OutOfStep, WrongSlot, Malformed, Impossible, TooLong}
 use Rattle.rules.specs.Drive.{is_writing, is_reading, writes, reads}
 use Rattle.rules.specs.Late.{late_blocks}
 use Rattle.rules.specs.Phase.{last_place, report_size, at_rest}

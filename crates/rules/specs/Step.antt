@@ -1,9 +1,7 @@
 -- One event: first whether it is refused, then what it does.
 use Rattle.std.specs.Prelude.{ℕ, ◌≡◌, Bool, true, false, List, eqb}
 use Rattle.basis.specs.Choice.{pick}
-use Rattle.rules.specs.declared.drive.Drive.{Drive}
 use Rattle.rules.specs.declared.phase.Phase.{Phase}
-use Rattle.rules.specs.declared.unit.Port.{Port}
 use Rattle.rules.specs.declared.unit.Core.{Core}
 use Rattle.rules.specs.declared.event.Act.{Act}
 use Rattle.rules.specs.declared.event.Act.TheVariants.{Command, Give, Take, Online, Offline}
@@ -12,7 +10,6 @@ use Rattle.rules.specs.declared.event.Event.{Event}
 use Rattle.rules.specs.declared.event.Event.TheVariants.{NoEvent, Reset, Named, Own}
 use Rattle.rules.specs.declared.answer.Answer.{Answer}
 use Rattle.rules.specs.declared.answer.Answer.TheVariants.{Taken, Raised}
-use Rattle.rules.specs.declared.answer.Lines.{Lines}
 use Rattle.rules.specs.declared.answer.Turn.{Turn}
 use Rattle.rules.specs.Unit.{Lent, drive_at, put_drive, tape_at, put_tape, put_staging, at_phase, reset_core}
 use Rattle.rules.specs.Event.{event_of}

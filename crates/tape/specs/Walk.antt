@@ -1,6 +1,5 @@
 -- The one walk over records, and what is read off it by whoever passes records.
 use Rattle.std.specs.Prelude.{ℕ, zero, suc, ◌+◌, List, length}
-use Rattle.tape.specs.declared.found.Found.{Found}
 use Rattle.tape.specs.declared.found.Found.TheVariants.{Block, Mark, Stop}
 use Rattle.tape.specs.declared.found.Why.{Why}
 use Rattle.tape.specs.declared.found.Why.TheVariants.{Bad}

@@ -1,7 +1,6 @@
 -- Each public contract leaves one outcome.
 use mathlib.Core.Path.{ap}
 use Rattle.basis.specs.Tests.{same}
-use Rattle.rules.specs.declared.unit.Core.{Core}
 use Rattle.trace.specs.declared.run.Played.{Played}
 use Rattle.trace.specs.Line.{Page}
 use Rattle.trace.specs.Play.{Left}

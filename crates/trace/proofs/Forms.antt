@@ -1,12 +1,12 @@
 -- The cutting and document 01's table of events agree.
-use Prim.Native.Nat.{ℕ, zero, suc, ◌+◌, ◌≤◌}
+use Prim.Native.Nat.{ℕ, ◌≤◌}
 use mathlib.Core.Bool.{Bool, true, false}
 use mathlib.Core.List.{List, [], ◌∷◌, ◌++◌, append-nil}
-use mathlib.Core.Path.{◌≡◌, refl, sym, ap, ◌∙◌}
+use mathlib.Core.Path.{◌≡◌, refl, ap, ◌∙◌}
 use native.Mathlib.Omega.{arith}
-use lib.Dec.{leb, eqb}
-use lib.ListN.{length, take, drop, get_or, length-append, take-append-drop}
-use borrow.Author.Tests.{eqb-true, eqb-false, ne_eqb, eq-eqb, le-leb}
+use lib.Dec.{eqb}
+use lib.ListN.{length, take, drop, take-append-drop}
+use borrow.Author.Tests.{eqb-true, ne_eqb, le-leb}
 use Rattle.basis.specs.Choice.{pick}
 use Rattle.rules.specs.declared.unit.Core.{Core}
 use Rattle.rules.specs.declared.answer.Answer.{Answer}
@@ -18,8 +18,7 @@ use Rattle.rules.specs.Event.{bare_event, bodied_event, event_of}
 use Rattle.rules.specs.Refusal.{possible, short, refusal_of}
 use Rattle.rules.specs.Step.{settled, step_by, step_of}
 use Rattle.rules.specs.Run.{world, turn_of}
-use Rattle.trace.specs.declared.cut.Cut.{Cut}
-use Rattle.trace.specs.declared.cut.Cut.TheVariants.{Whole, UnknownKind, CutOff, NoneLeft}
+use Rattle.trace.specs.declared.cut.Cut.TheVariants.{Whole}
 use Rattle.trace.specs.Cut.{kind_size, cut_by, cut_of}
 use Rattle.trace.specs.Play.{stops}
 use Rattle.trace.specs.Form.{CutByTheTable}

@@ -10,8 +10,7 @@ use lib.Seq.{take-append-le, drop-append-le, length-take-le, drop-drop}
 use borrow.Author.Tests.{leb-true, le-leb, ne_eqb, eqb-true, eqb-false}
 use Rattle.basis.specs.Choice.{pick}
 use Rattle.rules.specs.Run.{World, after, turn_of}
-use Rattle.trace.specs.declared.cut.Cut.TheVariants.{Whole, UnknownKind, CutOff, NoneLeft}
-use Rattle.trace.specs.declared.run.Halt.{Halt}
+use Rattle.trace.specs.declared.cut.Cut.TheVariants.{Whole, UnknownKind, CutOff}
 use Rattle.trace.specs.declared.run.Halt.TheVariants.{InputOut, RoomOut, Stopped}
 use Rattle.trace.specs.Cut.{kind_size, cut_by, cut_of, answered, next_size, events_of}
 use Rattle.trace.specs.Line.{line_size}

@@ -1,7 +1,7 @@
 -- A run taken turn by turn: what is written so far, in front of what the rest will write, is the whole.
 use Prim.Native.Nat.{ℕ, ◌+◌, ◌-◌, ◌≤◌}
 use mathlib.Core.Bool.{Bool, true, false}
-use mathlib.Core.List.{List, [], ◌∷◌, ◌++◌, append-nil, append_assoc}
+use mathlib.Core.List.{List, ◌∷◌, ◌++◌, append-nil, append_assoc}
 use mathlib.Core.Path.{◌≡◌, refl, sym, ap, ap₂, ◌∙◌}
 use native.Mathlib.Nat.{add-zero, zero-add, add_assoc}
 use native.Mathlib.Omega.{arith}
@@ -16,7 +16,7 @@ use Rattle.trace.specs.declared.run.Played.{Played}
 use Rattle.trace.specs.Cut.{next_size, events_of}
 use Rattle.basis.specs.Placed.{placed}
 use Rattle.trace.specs.Line.{line_size}
-use Rattle.trace.specs.Play.{has_room, line_in, stops, Run, still, since, play, Left, leaves, left, Plays, Turned, turn}
+use Rattle.trace.specs.Play.{has_room, line_in, stops, Run, still, since, play, Plays, Turned, turn}
 use Rattle.basis.proofs.Choosing.{elim_true, elim_false}
 use Rattle.trace.proofs.Lengths.{line_length}
 use Rattle.basis.proofs.Placing.{placed_length, take_placed, drop_placed}

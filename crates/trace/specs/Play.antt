@@ -2,7 +2,6 @@
 use Rattle.std.specs.Prelude.{ℕ, ◌+◌, ◌≤◌, ◌≡◌, Bool, true, false, ◌&&◌, List, [], ◌∷◌, ◌++◌, length, drop, ltb, leb, eqb}
 use Rattle.rules.specs.declared.unit.Core.{Core}
 use Rattle.rules.specs.declared.answer.Answer.{Answer}
-use Rattle.rules.specs.declared.answer.Turn.{Turn}
 use Rattle.rules.specs.Answer.{row_of}
 use Rattle.rules.specs.Unit.{Lent}
 use Rattle.rules.specs.Run.{World, world, after, turn_of}

@@ -30,7 +30,7 @@ use Rattle.rules.specs.Edge.{is_block}
 use Rattle.rules.specs.Effect.{hands}
 use Rattle.rules.specs.Bytes.{handed, octet_place, after_octet, octet_taken, byte_taken}
 use Rattle.rules.specs.Event.{bare_event, bodied_event, event_of}
-use Rattle.rules.specs.Step.{staged, staged_in, seat_of, act, stepped, done, taken_turn, landed, Steps}
+use Rattle.rules.specs.Step.{staged, staged_in, seat_of, stepped, done, taken_turn, landed, Steps}
 use Rattle.basis.proofs.Choosing.{both, join, choice_by}
 use Rattle.rules.proofs.Places.{put_back, tape_back}
 use Rattle.rules.proofs.Handing.{taken_at, may_take, taken_is}

@@ -1,6 +1,5 @@
 -- What the world at the end of the run has.
 use Rattle.pace.proofs.Turns.{paced_of}
-use borrow.Author.Rules.{rules}
 use Rattle.pace.proofs.pace_core.Goals as goal
 
 pub returns : goal.returns

@@ -5,7 +5,6 @@ use Rattle.rules.specs.Unit.{Lent}
 use Rattle.unit.specs.declared.many.Handed.{Handed}
 use Rattle.unit.specs.Handover.{GivesOver}
 use Rattle.pace.proofs.Turns.{then_called}
-use borrow.Author.Rules.{rules}
 use Rattle.pace.proofs.pace_give.Goals as goal
 
 pub returns : goal.returns

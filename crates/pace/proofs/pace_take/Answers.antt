@@ -5,7 +5,6 @@ use Rattle.rules.specs.Unit.{Lent}
 use Rattle.unit.specs.declared.many.Handed.{Handed}
 use Rattle.unit.specs.Handover.{TakesOver}
 use Rattle.pace.proofs.Turns.{then_called}
-use borrow.Author.Rules.{rules}
 use Rattle.pace.proofs.pace_take.Goals as goal
 
 pub shape_of-tape0 : goal.shape_of-tape0

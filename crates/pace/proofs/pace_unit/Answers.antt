@@ -1,6 +1,5 @@
 -- The loop from a fresh unit.
 use Rattle.pace.proofs.Turns.{paced_of}
-use borrow.Author.Rules.{rules}
 use Rattle.pace.proofs.pace_unit.Goals as goal
 
 pub returns : goal.returns

@@ -1,14 +1,8 @@
 -- What is left to run from pair to pair comes to the whole run.
-use Prim.Native.Nat.{◌≤◌, ◌-◌}
 use native.Mathlib.Omega.{arith}
-use mathlib.Core.Path.{◌≡◌, refl, ◌∙◌}
-use lib.ListN.{length, drop}
-use Rattle.rules.specs.Unit.{lent}
-use Rattle.rules.specs.Ran.{UnderWay}
+use mathlib.Core.Path.{refl, ◌∙◌}
 use Rattle.rules.proofs.Ran.{loop_laws}
-use Rattle.pace.specs.Pairs.{pairs_of}
 use Rattle.pace.proofs.Turns.{pairs_cut, pairs_end}
-use borrow.Author.Rules.{rules}
 use Rattle.pace.proofs.run_core.Goals as goal
 
 pub loop-i-init : goal.loop-i-init

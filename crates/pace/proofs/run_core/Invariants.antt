@@ -1,14 +1,10 @@
 -- What is left to run from pair to pair comes to the whole run.
 use Prim.Native.Nat.{◌≤◌, ◌-◌}
-use native.Mathlib.Omega.{arith}
-use mathlib.Core.Path.{◌≡◌, refl, ◌∙◌}
+use mathlib.Core.Path.{◌≡◌}
 use lib.ListN.{length, drop}
 use Rattle.rules.specs.Unit.{lent}
 use Rattle.rules.specs.Ran.{UnderWay}
-use Rattle.rules.proofs.Ran.{loop_laws}
 use Rattle.pace.specs.Pairs.{pairs_of}
-use Rattle.pace.proofs.Turns.{pairs_cut, pairs_end}
-use borrow.Author.Rules.{rules}
 use Rattle.pace.proofs.run_core.Given as goal
 
 abbrev pub invariant-loop-i : goal.invariant-loop-i

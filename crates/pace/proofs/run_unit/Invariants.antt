@@ -1,14 +1,9 @@
 -- What is left to run from pair i comes to the whole run.
-use Prim.Native.Nat.{◌≤◌, ◌-◌, ◌+◌}
-use mathlib.Core.Path.{refl}
-use native.Mathlib.Omega.{arith}
+use Prim.Native.Nat.{◌≤◌, ◌-◌}
 use lib.ListN.{length, drop}
 use Rattle.rules.specs.Unit.{lent}
 use Rattle.rules.specs.Ran.{UnderWay}
-use Rattle.rules.proofs.Ran.{loop_laws}
 use Rattle.pace.specs.Pairs.{pairs_of}
-use Rattle.pace.proofs.Turns.{pairs_cut, pairs_end}
-use borrow.Author.Rules.{rules}
 use Rattle.pace.proofs.run_unit.Given as goal
 
 abbrev pub invariant-loop-i : goal.invariant-loop-i

@@ -1,11 +1,10 @@
 -- Demand 3: what one drive gives and holds depends on what reaches it, and on nothing else.
-use Rattle.std.specs.Prelude.{ℕ, ◌≤◌, ◌≡◌, Bool, true, false, List, [], ◌++◌, eqb, replicate, take}
+use Rattle.std.specs.Prelude.{ℕ, ◌≤◌, ◌≡◌, true, List, [], ◌++◌, eqb, take}
 use Rattle.std.proofs.Math.Option.{Option, none, some}
 use Rattle.basis.specs.Choice.{pick}
-use Rattle.rules.specs.declared.drive.Drive.{Drive}
 use Rattle.rules.specs.declared.phase.Phase.{Phase}
 use Rattle.rules.specs.declared.phase.Phase.TheVariants.{Rest, Taking, Giving, Status}
-use Rattle.rules.specs.Unit.{Lent, lent, drive_at, tape_at}
+use Rattle.rules.specs.Unit.{drive_at, tape_at}
 use Rattle.rules.specs.Refusal.{short}
 use Rattle.rules.specs.Phase.{given_before}
 use Rattle.rules.specs.Run.{World, run, fresh_world}

@@ -11,7 +11,6 @@ use Rattle.rules.specs.Unit.{Lent, drive_at}
 use Rattle.rules.specs.Event.{event_of}
 use Rattle.rules.specs.Answer.{row_of}
 use Rattle.rules.specs.Refusal.{possible, short, in_step_at}
-use Rattle.rules.specs.Effect.{Acted}
 use Rattle.rules.specs.Slot.{is_out}
 use Rattle.rules.specs.Step.{act, seat_of, staged_in, step_of}
 

@@ -1,7 +1,6 @@
 use Rattle.rules.specs.Event.{bodied_event}
 use Rattle.basis.specs.Tests.{tests}
 use Rattle.basis.specs.Choice.{pick}
-use borrow.Author.Rules.{rules}
 use Rattle.answers.proofs.event.bodied_event.Goals as goal
 
 pub returns-in-1 : goal.returns-in-1

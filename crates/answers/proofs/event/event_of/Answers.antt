@@ -1,7 +1,6 @@
 use Rattle.rules.specs.Event.{event_of}
 use Rattle.basis.specs.Tests.{tests}
 use Rattle.basis.specs.Choice.{pick}
-use borrow.Author.Rules.{rules}
 use Rattle.answers.proofs.event.event_of.Goals as goal
 
 pub returns-then-event-eq1 : goal.returns-then-event-eq1

@@ -2,7 +2,6 @@
 use Rattle.answers.specs.Place.{body_of}
 use Rattle.basis.specs.Choice.{pick}
 use Rattle.basis.specs.Tests.{tests}
-use borrow.Author.Rules.{rules}
 use Rattle.answers.proofs.place.body.Goals as goal
 
 pub returns-then-event-eq2 : goal.returns-then-event-eq2

@@ -1,7 +1,6 @@
 -- A place that is found is within the block.
 use native.Mathlib.Omega.{arith}
 use mathlib.Core.Path.{refl}
-use borrow.Author.Rules.{rules}
 use Rattle.answers.proofs.place.given_place.Goals as goal
 
 pub returns : goal.returns

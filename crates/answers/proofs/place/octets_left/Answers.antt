@@ -1,6 +1,5 @@
 -- The octets outstanding, where they are asked for.
 use mathlib.Core.Path.{refl}
-use borrow.Author.Rules.{rules}
 use Rattle.answers.proofs.place.octets_left.Goals as goal
 
 pub returns : goal.returns

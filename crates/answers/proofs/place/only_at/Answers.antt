@@ -5,7 +5,6 @@ use Rattle.answers.specs.Place.{only_at}
 use native.Mathlib.Omega.{arith}
 use mathlib.Core.Path.{refl}
 use borrow.Author.Tests.{eq-eqb}
-use borrow.Author.Rules.{rules}
 use Rattle.answers.proofs.place.only_at.Goals as goal
 
 pub returns-then-event-kind : goal.returns-then-event-kind

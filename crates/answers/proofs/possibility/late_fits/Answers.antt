@@ -1,5 +1,4 @@
 use Rattle.answers.proofs.Tested.{none_fit, some_fit}
-use borrow.Author.Rules.{rules}
 use Rattle.answers.proofs.possibility.late_fits.Goals as goal
 
 pub returns-then-late-eq0 : goal.returns-then-late-eq0

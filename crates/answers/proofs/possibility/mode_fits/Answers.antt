@@ -1,6 +1,5 @@
 -- With a cartridge in, and without.
 use Rattle.answers.proofs.Tested.{loaded_fits}
-use borrow.Author.Rules.{rules}
 use Rattle.answers.proofs.possibility.mode_fits.Goals as goal
 
 pub returns-then-loaded : goal.returns-then-loaded

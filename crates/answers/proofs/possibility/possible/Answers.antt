@@ -6,7 +6,6 @@ use Rattle.basis.specs.Tests.{told}
 use Rattle.rules.specs.Refusal.{possible_phase, possible}
 use Rattle.rules.specs.Unit.{drive_at}
 use Rattle.basis.specs.Tests.{told}
-use borrow.Author.Rules.{rules}
 use Rattle.answers.proofs.possibility.possible.Goals as goal
 
 pub returns-then-possible_drive-3 : goal.returns-then-possible_drive-3

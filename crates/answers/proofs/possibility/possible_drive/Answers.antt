@@ -1,6 +1,5 @@
 use Rattle.rules.specs.Refusal.{possible_drive}
 use borrow.Author.Tests.{le-leb, lt-leb}
-use borrow.Author.Rules.{rules}
 use Rattle.answers.proofs.possibility.possible_drive.Goals as goal
 
 pub returns-then-drive-le-LONGEST : goal.returns-then-drive-le-LONGEST

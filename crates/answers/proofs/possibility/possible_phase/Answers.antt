@@ -1,5 +1,4 @@
 use Rattle.rules.specs.Refusal.{possible_phase}
-use borrow.Author.Rules.{rules}
 use Rattle.answers.proofs.possibility.possible_phase.Goals as goal
 
 pub returns-in-Rest : goal.returns-in-Rest

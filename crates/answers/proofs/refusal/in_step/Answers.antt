@@ -1,4 +1,3 @@
-use borrow.Author.Rules.{rules}
 use Rattle.answers.proofs.refusal.in_step.Goals as goal
 
 pub returns-in-Give : goal.returns-in-Give

@@ -1,4 +1,3 @@
-use borrow.Author.Rules.{rules}
 use Rattle.answers.proofs.refusal.slot_answer.Goals as goal
 
 pub returns-in-In : goal.returns-in-In

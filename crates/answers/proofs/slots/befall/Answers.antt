@@ -1,6 +1,5 @@
 -- A count leaves the phase.
 use Rattle.basis.specs.Choice.{pick}
-use borrow.Author.Rules.{rules}
 use Rattle.answers.proofs.slots.befall.Goals as goal
 
 pub returns-in-In : goal.returns-in-In

@@ -1,6 +1,5 @@
 -- The phase stays.
 use Rattle.basis.specs.Choice.{pick}
-use borrow.Author.Rules.{rules}
 use Rattle.answers.proofs.slots.cartridge_in.Goals as goal
 
 pub returns : goal.returns

@@ -1,4 +1,3 @@
-use borrow.Author.Rules.{rules}
 use Rattle.answers.proofs.slots.part_dropped.Goals as goal
 
 pub returns-in-Status : goal.returns-in-Status

@@ -1,5 +1,4 @@
 use Rattle.basis.specs.Choice.{pick}
-use borrow.Author.Rules.{rules}
 use Rattle.answers.proofs.slots.phase_after.Goals as goal
 
 pub returns-then-here : goal.returns-then-here

@@ -7,7 +7,6 @@ use Rattle.rules.specs.declared.answer.Turn.{Turn}
 use Rattle.rules.specs.declared.unit.Core.{Core}
 use Rattle.rules.specs.Step.{stepped, taken_turn}
 use Rattle.answers.proofs.Settling.{refused_by, taken_by}
-use borrow.Author.Rules.{rules}
 use Rattle.answers.proofs.slots.slot.Goals as goal
 
 pub returns-then-refuses : goal.returns-then-refuses

@@ -1,5 +1,4 @@
 use Rattle.rules.specs.Lines.{lines_of}
-use borrow.Author.Rules.{rules}
 use Rattle.answers.proofs.three_lines.lines.Goals as goal
 
 pub returns : goal.returns

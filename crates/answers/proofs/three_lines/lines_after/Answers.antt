@@ -1,6 +1,5 @@
 use Rattle.basis.specs.Tests.{told}
 use Rattle.basis.specs.Choice.{pick}
-use borrow.Author.Rules.{rules}
 use Rattle.answers.proofs.three_lines.lines_after.Goals as goal
 
 pub returns-then-lines_down : goal.returns-then-lines_down

@@ -1,4 +1,3 @@
-use borrow.Author.Rules.{rules}
 use Rattle.answers.proofs.turn.moved_to.Goals as goal
 
 pub returns : goal.returns

@@ -3,7 +3,6 @@ use Rattle.layout.specs.Written.{unit_bytes}
 use Rattle.basis.specs.Choice.{pick}
 use borrow.Author.Tests.{eq-eqb, ne_eqb}
 use mathlib.Core.Path.{refl, ap, ◌∙◌}
-use borrow.Author.Rules.{rules}
 use Rattle.board.proofs.exports.glenoulty_fresh.Goals as goal
 
 pub returns-then-buffer-eq-RECORD : goal.returns-then-buffer-eq-RECORD

@@ -2,7 +2,6 @@
 use Rattle.board.specs.Serve.{Gives}
 use mathlib.Core.Path.{refl}
 use Rattle.basis.specs.Tests.{told}
-use borrow.Author.Rules.{rules}
 use Rattle.board.proofs.exports.glenoulty_give.Goals as goal
 
 pub serve_given-requires : goal.serve_given-requires

@@ -3,7 +3,6 @@ use Rattle.board.proofs.Held.{held_long}
 use Rattle.basis.specs.Choice.{pick}
 use mathlib.Core.Path.{refl}
 use Rattle.basis.specs.Tests.{told}
-use borrow.Author.Rules.{rules}
 use Rattle.board.proofs.exports.glenoulty_lines.Goals as goal
 
 pub core_of-requires : goal.core_of-requires

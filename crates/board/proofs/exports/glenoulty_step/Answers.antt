@@ -2,7 +2,6 @@
 use Rattle.board.specs.Serve.{Serves}
 use mathlib.Core.Path.{refl}
 use Rattle.basis.specs.Tests.{told}
-use borrow.Author.Rules.{rules}
 use Rattle.board.proofs.exports.glenoulty_step.Goals as goal
 
 pub serve-requires : goal.serve-requires

@@ -2,7 +2,6 @@
 use Rattle.board.specs.Serve.{Takes}
 use mathlib.Core.Path.{refl}
 use Rattle.basis.specs.Tests.{told}
-use borrow.Author.Rules.{rules}
 use Rattle.board.proofs.exports.glenoulty_take.Goals as goal
 
 pub serve_taken-requires : goal.serve_taken-requires

@@ -2,7 +2,6 @@
 use Rattle.layout.proofs.Form.{record_long}
 use Rattle.board.specs.Serve.{holds}
 use Rattle.basis.specs.Tests.{told}
-use borrow.Author.Rules.{rules}
 use Rattle.board.proofs.judge.holds.Goals as goal
 
 pub possible_in-requires : goal.possible_in-requires

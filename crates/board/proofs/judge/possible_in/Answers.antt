@@ -2,7 +2,6 @@
 use Rattle.rules.specs.Unit.{one_of}
 use Rattle.basis.specs.Choice.{pick}
 use Rattle.rules.specs.Refusal.{possible}
-use borrow.Author.Rules.{rules}
 use Rattle.board.proofs.judge.possible_in.Goals as goal
 
 pub returns : goal.returns

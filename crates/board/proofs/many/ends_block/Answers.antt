@@ -1,7 +1,6 @@
 use borrow.Author.Tests.{lt-ltb, le-ltb}
 use Rattle.basis.specs.Choice.{pick}
 use Rattle.board.specs.Ends.{ends_block}
-use borrow.Author.Rules.{rules}
 use Rattle.board.proofs.many.ends_block.Goals as goal
 
 pub returns-then-n-lt-LAST_PLACE : goal.returns-then-n-lt-LAST_PLACE

@@ -2,7 +2,6 @@ use mathlib.Core.Path.{refl}
 use native.Mathlib.Omega.{arith}
 use borrow.Author.Tests.{eq-eqb, ne_eqb}
 use Rattle.basis.specs.Choice.{pick}
-use borrow.Author.Rules.{rules}
 use Rattle.board.proofs.many.keep_last.Goals as goal
 
 pub returns-then-given-eq1 : goal.returns-then-given-eq1

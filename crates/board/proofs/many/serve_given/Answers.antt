@@ -4,7 +4,6 @@ use Rattle.basis.proofs.Choosing.{both}
 use Rattle.rules.specs.declared.unit.Port.{Port}
 use Rattle.rules.specs.Refusal.{short}
 use Rattle.layout.proofs.Form.{record_long}
-use borrow.Author.Rules.{rules}
 use Rattle.board.proofs.many.serve_given.Goals as goal
 
 pub port_in-port-requires : goal.port_in-port-requires

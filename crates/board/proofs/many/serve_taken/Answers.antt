@@ -2,7 +2,6 @@
 use mathlib.Core.Path.{sym, ◌∙◌}
 use Rattle.rules.specs.Refusal.{short}
 use Rattle.layout.proofs.Form.{record_long}
-use borrow.Author.Rules.{rules}
 use Rattle.board.proofs.many.serve_taken.Goals as goal
 
 pub port_in-port-requires : goal.port_in-port-requires

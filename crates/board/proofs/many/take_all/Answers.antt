@@ -3,7 +3,6 @@ use mathlib.Core.Path.{refl, ◌∙◌}
 use native.Mathlib.Omega.{arith}
 use Rattle.layout.proofs.Form.{record_long}
 use Rattle.board.proofs.InPlace.{lent_part, part_long, back_long, back_staging}
-use borrow.Author.Rules.{rules}
 use Rattle.board.proofs.many.take_all.Goals as goal
 
 pub core_of-core-requires : goal.core_of-core-requires

@@ -1,5 +1,4 @@
 use Rattle.basis.specs.Choice.{pick}
-use borrow.Author.Rules.{rules}
 use borrow.Author.Tests.{lt-ltb, le-ltb}
 use Rattle.board.proofs.many.went_in.Goals as goal
 

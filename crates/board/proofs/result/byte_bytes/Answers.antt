@@ -1,4 +1,3 @@
-use borrow.Author.Rules.{rules}
 use Rattle.board.proofs.result.byte_bytes.Goals as goal
 
 pub returns : goal.returns

@@ -1,5 +1,4 @@
 -- Six bytes, each from its own call.
-use borrow.Author.Rules.{rules}
 use Rattle.board.proofs.result.result_bytes.Goals as goal
 
 pub returns : goal.returns

@@ -6,7 +6,6 @@ use lib.ListN.{length, take}
 use Rattle.basis.specs.Placed.{placed}
 use Rattle.layout.specs.Written.{phase_at, phase_bytes}
 use Rattle.board.proofs.InPlace.{lent_part, part_long, given_back}
-use borrow.Author.Rules.{rules}
 use Rattle.board.proofs.serve.move_on.Goals as goal
 
 pub returns : goal.returns

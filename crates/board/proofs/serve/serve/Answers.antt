@@ -1,6 +1,5 @@
 -- A byte within a block staged and its phase written where they stand; else the unit's step.
 use mathlib.Core.Path.{refl}
-use native.Mathlib.Omega.{arith}
 use Rattle.rules.specs.Refusal.{short}
 use Rattle.layout.proofs.Form.{record_long}
 use Rattle.board.specs.Serve.{tapes}

@@ -1,4 +1,4 @@
-use Rattle.std.proofs.Common.{◌≤◌, arith}
+use Rattle.std.proofs.Common.{arith}
 use Rattle.rules.specs.Drive.{error_counted}
 use Rattle.count.proofs.Lands.{first_lands, second_lands, third_lands, last_lands}
 use Rattle.count.proofs.errors.count_errors.Goals as goal

@@ -1,4 +1,4 @@
-use Rattle.std.proofs.Common.{◌≤◌, arith}
+use Rattle.std.proofs.Common.{arith}
 use Rattle.rules.specs.Drive.{underrun_counted}
 use Rattle.count.proofs.Lands.{first_lands, second_lands, third_lands, last_lands}
 use Rattle.count.proofs.underruns.count_underruns.Goals as goal

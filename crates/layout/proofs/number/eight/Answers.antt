@@ -1,5 +1,4 @@
 -- Eight bytes are those of the two halves.
-use borrow.Author.Rules.{rules}
 use Rattle.layout.proofs.number.eight.Goals as goal
 
 pub returns : goal.returns

@@ -1,5 +1,4 @@
 -- Four bytes are those of the two halves.
-use borrow.Author.Rules.{rules}
 use Rattle.layout.proofs.number.four.Goals as goal
 
 pub returns : goal.returns

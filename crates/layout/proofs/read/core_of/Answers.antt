@@ -1,6 +1,5 @@
 -- The port, and each drive from its own stretch.
 use Rattle.layout.specs.Read.{core_of}
-use borrow.Author.Rules.{rules}
 use Rattle.layout.proofs.read.core_of.Goals as goal
 
 pub returns : goal.returns

@@ -1,7 +1,6 @@
 -- Every drive ends inside the record.
 use native.Mathlib.Omega.{arith}
 use Rattle.layout.proofs.Parts.{drive_inside, drive_found}
-use borrow.Author.Rules.{rules}
 use Rattle.layout.proofs.read.drive_in.Goals as goal
 
 pub drive_part-requires : goal.drive_part-requires

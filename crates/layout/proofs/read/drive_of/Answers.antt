@@ -1,6 +1,5 @@
 -- Each field of a drive is read where the layout has it.
 use Rattle.layout.specs.Read.{drive_of}
-use borrow.Author.Rules.{rules}
 use Rattle.layout.proofs.read.drive_of.Goals as goal
 
 pub returns : goal.returns

@@ -1,7 +1,6 @@
 -- The copy is the stretch of a drive's bytes from the offset on.
 use Rattle.layout.proofs.Parts.{part_copied}
 use mathlib.Core.Path.{refl}
-use borrow.Author.Rules.{rules}
 use Rattle.layout.proofs.read.drive_part.Goals as goal
 
 pub returns : goal.returns

@@ -1,6 +1,5 @@
 -- The tests of a drive; the latched bits and the room have their own.
 use Rattle.layout.specs.Read.{is_drive}
-use borrow.Author.Rules.{rules}
 use Rattle.layout.proofs.read.is_drive.Goals as goal
 
 pub returns : goal.returns

@@ -1,6 +1,5 @@
 -- The tests of the port, the phase by its own.
 use Rattle.layout.specs.Read.{is_port}
-use borrow.Author.Rules.{rules}
 use Rattle.layout.proofs.read.is_port.Goals as goal
 
 pub returns : goal.returns

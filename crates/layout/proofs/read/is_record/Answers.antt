@@ -2,7 +2,6 @@
 use borrow.Author.Tests.{eq-eqb}
 use Rattle.layout.specs.Read.{is_record}
 use Rattle.basis.specs.Tests.{tests}
-use borrow.Author.Rules.{rules}
 use Rattle.layout.proofs.read.is_record.Goals as goal
 
 pub returns-then-buffer-ne-RECORD : goal.returns-then-buffer-ne-RECORD

@@ -1,5 +1,4 @@
 -- The tests of the room among the fields.
-use borrow.Author.Rules.{rules}
 use Rattle.layout.proofs.read.leaves_room.Goals as goal
 
 pub returns : goal.returns

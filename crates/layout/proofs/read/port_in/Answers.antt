@@ -1,5 +1,4 @@
 use Rattle.layout.specs.Read.{core_of}
-use borrow.Author.Rules.{rules}
 use Rattle.layout.proofs.read.port_in.Goals as goal
 
 pub returns : goal.returns

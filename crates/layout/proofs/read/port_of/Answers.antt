@@ -1,6 +1,5 @@
 -- Each field of the port is read where the layout has it.
 use Rattle.layout.specs.Read.{port_of}
-use borrow.Author.Rules.{rules}
 use Rattle.layout.proofs.read.port_of.Goals as goal
 
 pub returns : goal.returns

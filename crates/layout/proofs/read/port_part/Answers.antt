@@ -1,7 +1,6 @@
 -- The copy is the first stretch, of 18 bytes.
 use Rattle.layout.proofs.Parts.{part_copied}
 use mathlib.Core.Path.{refl}
-use borrow.Author.Rules.{rules}
 use Rattle.layout.proofs.read.port_part.Goals as goal
 
 pub returns : goal.returns

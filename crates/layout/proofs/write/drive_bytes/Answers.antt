@@ -1,6 +1,5 @@
 -- The array has what the calls made, byte for byte as a drive is laid out.
 use Rattle.layout.proofs.Parts.{drive_listed}
-use borrow.Author.Rules.{rules}
 use Rattle.layout.proofs.write.drive_bytes.Goals as goal
 
 pub returns : goal.returns

@@ -1,5 +1,4 @@
 -- Each bit by its call, in the order of the octets.
-use borrow.Author.Rules.{rules}
 use Rattle.layout.proofs.write.latched_bytes.Goals as goal
 
 pub returns : goal.returns

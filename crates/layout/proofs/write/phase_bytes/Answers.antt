@@ -1,5 +1,4 @@
 -- The array has what the calls made, byte for byte as a phase is laid out.
-use borrow.Author.Rules.{rules}
 use Rattle.layout.proofs.write.phase_bytes.Goals as goal
 
 pub returns : goal.returns

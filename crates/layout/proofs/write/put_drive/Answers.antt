@@ -1,5 +1,4 @@
 -- What is put is the drive's bytes.
-use borrow.Author.Rules.{rules}
 use Rattle.layout.proofs.write.put_drive.Goals as goal
 
 pub returns : goal.returns

@@ -4,7 +4,6 @@ use Rattle.layout.proofs.Parts.{nothing_yet, put_on, port_long, drive_long, core
 use Rattle.layout.specs.Written.{port_bytes, drive_bytes}
 use Rattle.layout.specs.Read.{staging_of}
 use native.Mathlib.Omega.{arith}
-use borrow.Author.Rules.{rules}
 use Rattle.layout.proofs.write.write_core.Goals as goal
 
 pub returns : goal.returns

@@ -1,4 +1,3 @@
-use borrow.Author.Rules.{rules}
 use Rattle.layout.proofs.write.write_phase.Goals as goal
 
 pub returns : goal.returns

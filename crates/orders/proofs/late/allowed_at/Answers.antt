@@ -1,6 +1,5 @@
 use Rattle.basis.specs.Tests.{told}
 use Rattle.basis.specs.Choice.{pick}
-use borrow.Author.Rules.{rules}
 use Rattle.rules.specs.Late.{allowed_at}
 use Rattle.orders.proofs.late.allowed_at.Goals as goal
 

@@ -1,5 +1,4 @@
 use native.Mathlib.Omega.{arith}
-use borrow.Author.Rules.{rules}
 use Rattle.rules.proofs.Rooms.{spare_small}
 use Rattle.orders.proofs.late.block_room.Goals as goal
 

@@ -1,4 +1,3 @@
-use borrow.Author.Rules.{rules}
 use Rattle.rules.specs.Late.{goes_on}
 use Rattle.orders.proofs.late.goes_on.Goals as goal
 

@@ -1,5 +1,4 @@
 use Rattle.rules.specs.Order.{fault_by}
-use borrow.Author.Rules.{rules}
 use Rattle.orders.proofs.order.fault_of.Goals as goal
 
 pub returns : goal.returns

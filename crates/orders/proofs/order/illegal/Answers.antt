@@ -1,5 +1,4 @@
 use Rattle.rules.specs.Order.{illegal}
-use borrow.Author.Rules.{rules}
 use Rattle.orders.proofs.order.illegal.Goals as goal
 
 pub returns : goal.returns

@@ -1,4 +1,3 @@
-use borrow.Author.Rules.{rules}
 use Rattle.orders.proofs.order.needs_of.Goals as goal
 
 pub returns-in-NoOrder : goal.returns-in-NoOrder

@@ -1,4 +1,3 @@
-use borrow.Author.Rules.{rules}
 use Rattle.port.proofs.acts.act.Goals as goal
 
 pub returns-in-Command : goal.returns-in-Command

@@ -2,7 +2,6 @@
 use Rattle.rules.specs.Edge.{checked}
 use Rattle.basis.specs.Tests.{told}
 use Rattle.tape.proofs.Standing.{mark_fits}
-use borrow.Author.Rules.{rules}
 use native.Mathlib.Omega.{arith}
 use Rattle.port.proofs.edge.check.Goals as goal
 

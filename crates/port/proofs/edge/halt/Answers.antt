@@ -1,4 +1,3 @@
-use borrow.Author.Rules.{rules}
 use Rattle.port.proofs.edge.halt.Goals as goal
 
 pub returns-in-End : goal.returns-in-End

@@ -1,4 +1,3 @@
-use borrow.Author.Rules.{rules}
 use Rattle.port.proofs.edge.stand_where.Goals as goal
 
 pub returns-in-Past : goal.returns-in-Past

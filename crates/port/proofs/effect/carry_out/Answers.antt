@@ -1,5 +1,4 @@
 use Rattle.basis.specs.Choice.{pick}
-use borrow.Author.Rules.{rules}
 use Rattle.port.proofs.effect.carry_out.Goals as goal
 
 pub returns-in-NoOrder : goal.returns-in-NoOrder

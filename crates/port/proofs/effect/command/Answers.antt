@@ -2,7 +2,6 @@
 use Rattle.port.proofs.Tested.{fine_has_room}
 use Rattle.rules.specs.Effect.{fault_of}
 use Rattle.basis.specs.Tests.{told}
-use borrow.Author.Rules.{rules}
 use lib.ListN.{length}
 use Rattle.port.proofs.effect.command.Goals as goal
 

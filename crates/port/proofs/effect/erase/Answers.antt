@@ -1,4 +1,3 @@
-use borrow.Author.Rules.{rules}
 use Rattle.port.proofs.effect.erase.Goals as goal
 
 pub returns : goal.returns

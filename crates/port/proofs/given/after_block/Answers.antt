@@ -1,7 +1,6 @@
 use Rattle.rules.specs.Bytes.{after_block}
 use Rattle.basis.specs.Tests.{told}
 use Rattle.basis.specs.Choice.{pick}
-use borrow.Author.Rules.{rules}
 use Rattle.port.proofs.given.after_block.Goals as goal
 
 pub returns-then-goes_on : goal.returns-then-goes_on

@@ -1,6 +1,5 @@
 use Rattle.rules.specs.Bytes.{staged_byte}
 use Rattle.basis.specs.Choice.{pick}
-use borrow.Author.Rules.{rules}
 use borrow.Author.Tests.{le-ltb, lt-ltb}
 use Rattle.port.proofs.given.put.Goals as goal
 

@@ -1,4 +1,3 @@
-use borrow.Author.Rules.{rules}
 use Rattle.port.proofs.given.stage.Goals as goal
 
 pub returns-in-Give : goal.returns-in-Give

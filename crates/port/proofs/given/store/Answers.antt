@@ -1,6 +1,5 @@
 -- The one call that records tells whether the block and what is kept behind it had room.
 use Rattle.port.proofs.Made.{block_refused, block_stored}
-use borrow.Author.Rules.{rules}
 use Rattle.port.proofs.given.store.Goals as goal
 
 pub returns-in-Next : goal.returns-in-Next

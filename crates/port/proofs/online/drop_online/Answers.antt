@@ -1,7 +1,6 @@
 -- The two tests choose between the rules of the book.
 use Rattle.port.proofs.Level.{with_cartridge, with_exception, with_neither}
 use Rattle.rules.specs.Online.{dropped}
-use borrow.Author.Rules.{rules}
 use mathlib.Core.Path.{sym}
 use Rattle.port.proofs.online.drop_online.Goals as goal
 

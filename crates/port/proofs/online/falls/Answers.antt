@@ -1,4 +1,3 @@
-use borrow.Author.Rules.{rules}
 use Rattle.port.proofs.online.falls.Goals as goal
 
 pub returns : goal.returns

@@ -1,7 +1,6 @@
 use Rattle.port.proofs.Level.{leaving_else, leaving_writing}
 use Rattle.rules.specs.Effect.{seat}
 use Rattle.basis.specs.Tests.{told}
-use borrow.Author.Rules.{rules}
 use mathlib.Core.Path.{◌∙◌}
 use Rattle.port.proofs.online.leave.Goals as goal
 

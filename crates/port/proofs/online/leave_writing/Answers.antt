@@ -3,7 +3,6 @@ use Rattle.rules.specs.Order.{mark_room}
 use Rattle.tape.proofs.Answers.{next_means, no_room_means}
 use Rattle.basis.specs.Choice.{pick}
 use Rattle.tape.specs.Record.{mark_record, mark_size}
-use borrow.Author.Rules.{rules}
 use borrow.Author.Tests.{le-leb, lt-leb}
 use lib.ListN.{length}
 use Rattle.port.proofs.online.leave_writing.Goals as goal

@@ -1,6 +1,5 @@
 use Rattle.rules.specs.Bytes.{handed}
 use Rattle.basis.specs.Choice.{pick}
-use borrow.Author.Rules.{rules}
 use borrow.Author.Tests.{le-ltb, lt-ltb}
 use Rattle.port.proofs.taken.hand.Goals as goal
 

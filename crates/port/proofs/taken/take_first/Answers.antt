@@ -1,7 +1,6 @@
 -- A byte is handed out where the check raised nothing: a whole block stands there.
 use Rattle.port.proofs.Whole.{unraised}
 use Rattle.basis.specs.Choice.{pick}
-use borrow.Author.Rules.{rules}
 use Rattle.port.proofs.taken.take_first.Goals as goal
 
 pub hand-requires : goal.hand-requires

@@ -1,6 +1,5 @@
 use Rattle.port.proofs.Whole.{whole}
 use Rattle.basis.specs.Choice.{pick}
-use borrow.Author.Rules.{rules}
 use Rattle.port.proofs.taken.take_next.Goals as goal
 
 pub hand-requires : goal.hand-requires

@@ -1,5 +1,4 @@
 use Rattle.rules.specs.Bytes.{octet_taken}
-use borrow.Author.Rules.{rules}
 use Rattle.port.proofs.taken.take_octet.Goals as goal
 
 pub returns : goal.returns

@@ -1,6 +1,5 @@
 -- Each bit is the book's, in its place.
 use Rattle.rules.specs.Octets.{octets_of}
-use borrow.Author.Rules.{rules}
 use Rattle.report.proofs.made.octets.Goals as goal
 
 pub returns : goal.returns

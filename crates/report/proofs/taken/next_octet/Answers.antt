@@ -1,4 +1,3 @@
-use borrow.Author.Rules.{rules}
 use Rattle.report.proofs.taken.next_octet.Goals as goal
 
 pub returns : goal.returns

@@ -1,6 +1,5 @@
 use Rattle.basis.specs.Tests.{tests}
 use Rattle.basis.specs.Choice.{pick}
-use borrow.Author.Rules.{rules}
 use Rattle.report.proofs.taken.octet_place.Goals as goal
 
 pub returns-then-k-le1 : goal.returns-then-k-le1

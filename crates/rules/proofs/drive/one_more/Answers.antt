@@ -1,7 +1,6 @@
 use Rattle.rules.specs.Drive.{counted}
 use Rattle.basis.specs.Tests.{tests}
 use Rattle.basis.specs.Choice.{pick}
-use borrow.Author.Rules.{rules}
 use Rattle.rules.proofs.drive.one_more.Goals as goal
 
 pub returns-then-n-lt-HIGHEST : goal.returns-then-n-lt-HIGHEST

@@ -1,5 +1,5 @@
 -- Late blocks: the 512th byte in a late WRITE; what keeps their number, what takes it away, and which numbers cannot be.
-use Rattle.std.specs.Prelude.{ℕ, ◌+◌, false, List, [], ◌∷◌, ◌++◌}
+use Rattle.std.specs.Prelude.{ℕ, false, List, [], ◌∷◌, ◌++◌}
 use Rattle.rules.specs.declared.drive.Drive.{Drive}
 use Rattle.rules.specs.declared.drive.Mode.TheVariants.{Idle, Writing, Reading}
 use Rattle.rules.specs.declared.phase.Phase.TheVariants.{Rest, Taking, Status}

@@ -1,5 +1,5 @@
 -- Cartridges and counts: what happens at a drive that an event names.
-use Rattle.std.specs.Prelude.{ℕ, ◌+◌, true, false, List, [], ◌∷◌, ◌++◌}
+use Rattle.std.specs.Prelude.{ℕ, true, false, List, [], ◌∷◌, ◌++◌}
 use Rattle.rules.specs.declared.drive.Drive.{Drive}
 use Rattle.rules.specs.declared.drive.Mode.TheVariants.{Idle, Writing, Reading}
 use Rattle.rules.specs.declared.phase.Phase.{Phase}

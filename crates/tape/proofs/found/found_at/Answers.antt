@@ -2,7 +2,6 @@
 use native.Mathlib.Omega.{arith}
 use mathlib.Core.Path.{sym}
 use Rattle.tape.specs.Laws.{whole_block, one_mark, one_end, tape_end, other_kind, cut_block, off_tape}
-use borrow.Author.Rules.{rules}
 use Rattle.tape.proofs.Standing.{case_found}
 use Rattle.tape.proofs.found.found_at.Goals as goal
 

@@ -1,11 +1,8 @@
 -- Where the walk stands, in the laws' words, before each record.
-use Prim.Native.Nat.{◌-◌}
 use mathlib.Core.Path.{sym, ◌∙◌}
 use native.Mathlib.Omega.{arith}
-use lib.ListN.{length}
-use borrow.Author.Rules.{rules}
 use Rattle.tape.proofs.Standing.{block_fits, mark_fits}
-use Rattle.tape.proofs.Walking.{StandsAt, stands_first, over_blocks, over_marks, stopped_at, past_all}
+use Rattle.tape.proofs.Walking.{stands_first, over_blocks, over_marks, stopped_at, past_all}
 use Rattle.tape.proofs.pass.pass_marks.Goals as goal
 
 pub loop-left-init : goal.loop-left-init

@@ -1,11 +1,7 @@
 -- Where the walk stands, in the laws' words, before each record.
 use Prim.Native.Nat.{◌-◌}
-use mathlib.Core.Path.{sym, ◌∙◌}
-use native.Mathlib.Omega.{arith}
 use lib.ListN.{length}
-use borrow.Author.Rules.{rules}
-use Rattle.tape.proofs.Standing.{block_fits, mark_fits}
-use Rattle.tape.proofs.Walking.{StandsAt, stands_first, over_blocks, over_marks, stopped_at, past_all}
+use Rattle.tape.proofs.Walking.{StandsAt}
 use Rattle.tape.proofs.pass.pass_marks.Given as goal
 
 abbrev pub invariant-loop-left : goal.invariant-loop-left

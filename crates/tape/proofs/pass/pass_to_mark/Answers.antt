@@ -1,6 +1,5 @@
 -- Where the way past one mark ended.
 use mathlib.Core.Path.{ap}
-use borrow.Author.Rules.{rules}
 use Rattle.tape.specs.declared.pass.Way.{Way}
 use Rattle.tape.proofs.pass.pass_to_mark.Goals as goal
 

@@ -1,5 +1,4 @@
 use Rattle.tape.proofs.Parts.{end_in, end_out}
-use borrow.Author.Rules.{rules}
 use Rattle.tape.proofs.record.end_at.Goals as goal
 
 pub returns-then-n-part : goal.returns-then-n-part

@@ -1,10 +1,10 @@
 use Rattle.tape.proofs.Parts.{filled_all}
 use borrow.Author.Fill.{fill_more}
-use lib.ListN.{length, set, drop, replicate}
+use lib.ListN.{set}
 use native.Mathlib.Omega.{arith}
-use mathlib.Core.List.{List, ◌++◌}
-use mathlib.Core.Path.{◌≡◌, ap, ◌∙◌}
-use Prim.Native.Nat.{ℕ, ◌-◌, ◌≤◌}
+use mathlib.Core.List.{List}
+use mathlib.Core.Path.{ap, ◌∙◌}
+use Prim.Native.Nat.{ℕ}
 use borrow.Author.Rules.{rules}
 use Rattle.tape.proofs.record.erase.Goals as goal
 

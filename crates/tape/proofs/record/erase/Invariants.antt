@@ -1,11 +1,7 @@
-use Rattle.tape.proofs.Parts.{filled_all}
-use borrow.Author.Fill.{fill_more}
-use lib.ListN.{length, set, drop, replicate}
-use native.Mathlib.Omega.{arith}
-use mathlib.Core.List.{List, ◌++◌}
-use mathlib.Core.Path.{◌≡◌, ap, ◌∙◌}
-use Prim.Native.Nat.{ℕ, ◌-◌, ◌≤◌}
-use borrow.Author.Rules.{rules}
+use lib.ListN.{length, drop, replicate}
+use mathlib.Core.List.{◌++◌}
+use mathlib.Core.Path.{◌≡◌}
+use Prim.Native.Nat.{◌-◌, ◌≤◌}
 use Rattle.tape.proofs.record.erase.Given as goal
 
 abbrev pub invariant-loop-i : goal.invariant-loop-i

@@ -3,7 +3,6 @@ use borrow.Author.Tests.{lt-leb}
 use Prim.Native.Nat.{◌+◌}
 use mathlib.Core.Path.{sym}
 use native.Mathlib.Omega.{arith}
-use borrow.Author.Rules.{rules}
 use Rattle.tape.proofs.record.has_room.Goals as goal
 
 pub returns-then-length-n : goal.returns-then-length-n

@@ -1,13 +1,11 @@
 use Rattle.tape.proofs.Parts.{block_put}
-use lib.Seq.{paste, paste-zero, paste-suc}
-use lib.ListN.{length, get_or, set, length-set}
+use lib.Seq.{paste-zero, paste-suc}
+use lib.ListN.{get_or, set, length-set}
 use native.Mathlib.Numerals.{add-one}
 use native.Mathlib.Omega.{arith}
 use mathlib.Core.List.{List}
 use mathlib.Core.Path.{◌≡◌, refl, ap, ◌∙◌}
-use Prim.Native.Nat.{ℕ, ◌+◌, ◌-◌, ◌≤◌}
-use borrow.Author.Rules.{rules}
-use Rattle.tape.proofs.record.end_at.Reads as end-at-reads
+use Prim.Native.Nat.{ℕ, ◌+◌}
 use Rattle.tape.proofs.record.put_block.Goals as goal
 
 pub loop-i-init : goal.loop-i-init

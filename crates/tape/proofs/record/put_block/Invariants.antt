@@ -1,13 +1,7 @@
-use Rattle.tape.proofs.Parts.{block_put}
-use lib.Seq.{paste, paste-zero, paste-suc}
-use lib.ListN.{length, get_or, set, length-set}
-use native.Mathlib.Numerals.{add-one}
-use native.Mathlib.Omega.{arith}
-use mathlib.Core.List.{List}
-use mathlib.Core.Path.{◌≡◌, refl, ap, ◌∙◌}
-use Prim.Native.Nat.{ℕ, ◌+◌, ◌-◌, ◌≤◌}
-use borrow.Author.Rules.{rules}
-use Rattle.tape.proofs.record.end_at.Reads as end-at-reads
+use lib.Seq.{paste}
+use lib.ListN.{length}
+use mathlib.Core.Path.{◌≡◌}
+use Prim.Native.Nat.{◌-◌, ◌≤◌}
 use Rattle.tape.proofs.record.put_block.Given as goal
 
 abbrev pub invariant-loop-i : goal.invariant-loop-i

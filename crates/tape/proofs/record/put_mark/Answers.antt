@@ -1,8 +1,6 @@
 use Rattle.tape.proofs.Parts.{mark_put}
 use lib.ListN.{length-set}
 use mathlib.Core.Path.{◌∙◌}
-use borrow.Author.Rules.{rules}
-use Rattle.tape.proofs.record.end_at.Reads as end-at-reads
 use Rattle.tape.proofs.record.put_mark.Goals as goal
 
 pub shape_of-part : goal.shape_of-part

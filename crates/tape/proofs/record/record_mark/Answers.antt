@@ -2,7 +2,6 @@
 use Prim.Native.Nat.{◌+◌, ◌≤◌}
 use native.Mathlib.Omega.{arith}
 use lib.ListN.{length, length-take, length-drop}
-use borrow.Author.Rules.{rules}
 use Rattle.tape.specs.Record.{mark_record}
 use Rattle.tape.proofs.Parts.{roomy, full, made_with_room, none_without_room}
 use Rattle.tape.proofs.record.record_mark.Goals.{Then-has_room}

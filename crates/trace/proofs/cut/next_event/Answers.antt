@@ -1,6 +1,5 @@
 use Rattle.basis.specs.Choice.{pick}
 use Rattle.trace.specs.Cut.{cut_by, cut_of}
-use borrow.Author.Rules.{rules}
 use borrow.Author.Tests.{eq-eqb, le-leb, lt-leb, ne_eqb}
 use Rattle.trace.proofs.cut.next_event.Goals as goal
 

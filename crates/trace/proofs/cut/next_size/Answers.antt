@@ -1,6 +1,5 @@
 use Rattle.basis.specs.Choice.{pick}
 use Rattle.trace.specs.Cut.{next_size}
-use borrow.Author.Rules.{rules}
 use Rattle.trace.proofs.cut.next_size.Goals as goal
 
 pub returns-in-Whole : goal.returns-in-Whole

@@ -1,6 +1,5 @@
 use Rattle.trace.proofs.Lengths.{one_digit}
 use Rattle.trace.specs.Line.{fields_of}
-use borrow.Author.Rules.{rules}
 use Rattle.trace.proofs.line.fields.Goals as goal
 
 pub digit-number-requires : goal.digit-number-requires

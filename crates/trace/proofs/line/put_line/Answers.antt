@@ -1,7 +1,6 @@
 use Rattle.basis.proofs.Placing.{placed_then}
 use Rattle.basis.specs.Text.{decimal}
 use Rattle.trace.specs.Line.{fields_of, line_of, line_size}
-use borrow.Author.Rules.{rules}
 use native.Mathlib.Omega.{arith}
 use Rattle.trace.proofs.line.put_line.Goals as goal
 

@@ -5,7 +5,6 @@ use Rattle.basis.proofs.Digits.{few_digits}
 use Rattle.trace.proofs.Lengths.{line_length}
 use Rattle.basis.specs.Text.{decimal}
 use Rattle.trace.specs.Line.{line_size, shown_at}
-use borrow.Author.Rules.{rules}
 use borrow.Author.Tests.{leb-true}
 use lib.ListN.{length}
 use native.Mathlib.Omega.{arith}

@@ -1,7 +1,6 @@
 use Rattle.basis.specs.Choice.{pick}
 use Rattle.trace.proofs.Keeping.{both_bounds}
 use Rattle.trace.specs.Rest.{rest_of}
-use borrow.Author.Rules.{rules}
 use lib.ListN.{length}
 use native.Mathlib.Omega.{arith}
 use Rattle.trace.proofs.rest.keep_rest.Goals as goal

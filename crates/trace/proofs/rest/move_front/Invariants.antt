@@ -1,10 +1,7 @@
-use Prim.Native.Nat.{◌-◌, ◌≤◌, ℕ}
-use Rattle.trace.proofs.Keeping.{front_more, front_start}
+use Prim.Native.Nat.{◌-◌, ◌≤◌}
 use Rattle.trace.specs.Rest.{moved_front}
-use borrow.Author.Rules.{rules}
-use lib.ListN.{length, length-set}
-use mathlib.Core.Path.{◌∙◌, ◌≡◌, ap, refl}
-use native.Mathlib.Omega.{arith}
+use lib.ListN.{length}
+use mathlib.Core.Path.{◌≡◌}
 use Rattle.trace.proofs.rest.move_front.Given as goal
 
 abbrev pub invariant-loop-i : goal.invariant-loop-i

@@ -2,7 +2,6 @@ use Prim.Native.Nat.{◌+◌}
 use Rattle.basis.proofs.Digits.{few_digits}
 use Rattle.trace.specs.Line.{line_size}
 use Rattle.trace.specs.Play.{has_room}
-use borrow.Author.Rules.{rules}
 use borrow.Author.Tests.{le-ltb, lt-ltb}
 use native.Mathlib.Omega.{arith}
 use Rattle.trace.proofs.run.has_room.Goals as goal

@@ -1,12 +1,9 @@
-use Prim.Native.Nat.{◌-◌}
-use Rattle.rules.specs.Run.{world}
 use Rattle.basis.specs.Tests.{told}
-use Rattle.rules.specs.Unit.{lent}
-use Rattle.trace.proofs.Playing.{Runs, at_start, event_inside, goes_no_further, goes_on, halts, no_room, none_left}
+use Rattle.trace.proofs.Playing.{at_start, event_inside, goes_no_further, goes_on, halts, no_room, none_left}
 use Rattle.trace.proofs.Turning.{room_fits}
 use borrow.Author.Rules.{rules}
 use lib.ListN.{length}
-use mathlib.Core.Path.{◌∙◌, ◌≡◌, refl}
+use mathlib.Core.Path.{◌∙◌, refl}
 use native.Mathlib.Omega.{arith}
 use Rattle.trace.proofs.run.play.Goals as goal
 

@@ -1,5 +1,4 @@
 use Rattle.trace.specs.Play.{stops}
-use borrow.Author.Rules.{rules}
 use Rattle.trace.proofs.run.stops.Goals as goal
 
 pub returns : goal.returns

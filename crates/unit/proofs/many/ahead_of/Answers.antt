@@ -1,7 +1,6 @@
 use borrow.Author.Tests.{lt-ltb, le-ltb}
 use Rattle.basis.specs.Choice.{pick}
 use Rattle.unit.specs.Ahead.{ahead_of}
-use borrow.Author.Rules.{rules}
 use Rattle.unit.proofs.many.ahead_of.Goals as goal
 
 pub returns-then-want-room : goal.returns-then-want-room

@@ -1,4 +1,3 @@
-use borrow.Author.Rules.{rules}
 use Rattle.unit.proofs.many.answered_0.Goals as goal
 
 pub returns : goal.returns

@@ -1,18 +1,11 @@
 -- Leg after leg, each byte that went over is the first of those still to come.
-use Prim.Native.Nat.{◌≤◌, ◌-◌}
 use mathlib.Core.Path.{refl, ◌∙◌}
 use mathlib.Core.List.{[]}
 use native.Mathlib.Omega.{arith}
-use lib.ListN.{length, drop, length-take, length-drop}
-use borrow.Author.Rules.{rules}
-use borrow.Author.Tests.{not-true}
-use Rattle.rules.specs.Unit.{lent}
-use Rattle.rules.specs.Run.{given_each}
-use Rattle.unit.specs.Handover.{went_in}
-use Rattle.unit.proofs.Handover.{Standing, begins, begun, all_sizes}
+use lib.ListN.{length-take, length-drop}
+use Rattle.unit.proofs.Handover.{begins, begun, all_sizes}
 use Rattle.tape.proofs.Parts.{part_of}
 use Rattle.unit.proofs.Legs.{given_on, given_stops, given_ends}
-use Rattle.basis.proofs.Choosing.{not_not}
 use Rattle.unit.proofs.many.give_bytes.Goals as goal
 
 pub loop-count-init : goal.loop-count-init

@@ -7,7 +7,6 @@ use Rattle.rules.specs.Unit.{lent}
 use Rattle.rules.specs.Refusal.{short}
 use Rattle.unit.proofs.Ahead.{given_fits, given_within}
 use Rattle.unit.proofs.Legs.{given_leg, given_one}
-use borrow.Author.Rules.{rules}
 use Rattle.unit.proofs.many.give_some.Goals as goal
 
 pub slice_bounds-put-end : goal.slice_bounds-put-end

@@ -1,6 +1,5 @@
 use Rattle.basis.specs.Choice.{pick}
 use Rattle.unit.specs.Ahead.{given_ahead}
-use borrow.Author.Rules.{rules}
 use Rattle.unit.proofs.many.given_ahead.Goals as goal
 
 pub returns-then-calm-look : goal.returns-then-calm-look

@@ -1,5 +1,4 @@
 use Rattle.basis.specs.Choice.{pick}
-use borrow.Author.Rules.{rules}
 use Rattle.unit.proofs.many.keep.Goals as goal
 
 pub returns-then-given : goal.returns-then-given

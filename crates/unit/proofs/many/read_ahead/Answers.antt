@@ -8,7 +8,6 @@ use Rattle.basis.proofs.Placing.{placed_none}
 use Rattle.port.proofs.Whole.{whole}
 use Rattle.unit.specs.Ahead.{read_ahead}
 use Rattle.unit.proofs.Ahead.{ahead_some}
-use borrow.Author.Rules.{rules}
 use Rattle.unit.proofs.many.read_ahead.Goals.{Then-k-gt0}
 use Rattle.unit.proofs.many.read_ahead.Goals as goal
 

@@ -6,7 +6,6 @@ use lib.ListN.{length}
 use Rattle.basis.specs.Choice.{pick}
 use Rattle.rules.specs.Unit.{one_of}
 use Rattle.rules.proofs.Places.{last_one}
-use borrow.Author.Rules.{rules}
 use Rattle.unit.proofs.many.read_on.Goals as goal
 
 pub returns-in-0 : goal.returns-in-0

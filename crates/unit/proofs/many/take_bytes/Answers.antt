@@ -1,20 +1,12 @@
 -- Leg after leg, each byte taken is put behind those before it.
-use Prim.Native.Nat.{◌≤◌, ◌-◌}
+use Prim.Native.Nat.{◌-◌}
 use mathlib.Core.Path.{◌≡◌, refl, sym, ap, ◌∙◌}
-use mathlib.Core.List.{List, []}
+use mathlib.Core.List.{[]}
 use native.Mathlib.Omega.{arith}
 use lib.ListN.{length}
-use borrow.Author.Rules.{rules}
-use borrow.Author.Tests.{not-true}
-use Rattle.basis.specs.Placed.{placed}
-use Rattle.basis.proofs.Choosing.{not_not}
 use Rattle.basis.proofs.Placing.{placed_none}
-use Rattle.rules.specs.declared.answer.Turn.{Turn}
-use Rattle.rules.specs.Unit.{lent}
 use Rattle.rules.specs.Run.{taken_times}
-use Rattle.rules.specs.Promises.Strike.{handed_out}
-use Rattle.unit.specs.Handover.{went_out}
-use Rattle.unit.proofs.Handover.{Standing, begins, begun, all_sizes}
+use Rattle.unit.proofs.Handover.{begins, begun, all_sizes}
 use Rattle.unit.proofs.Legs.{taken_on, taken_stops, taken_ends}
 use Rattle.unit.proofs.many.take_bytes.Goals as goal
 

@@ -7,7 +7,6 @@ use Rattle.rules.specs.Unit.{lent}
 use Rattle.rules.specs.Refusal.{short}
 use Rattle.unit.proofs.Ahead.{taken_fits, taken_within}
 use Rattle.unit.proofs.Legs.{taken_leg, taken_one}
-use borrow.Author.Rules.{rules}
 use Rattle.unit.proofs.many.take_some.Goals as goal
 
 pub overflow_add-n : goal.overflow_add-n

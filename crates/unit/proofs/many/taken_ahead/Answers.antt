@@ -6,7 +6,6 @@ use Rattle.basis.proofs.Placing.{placed_none}
 use Rattle.rules.specs.Unit.{one_of, drive_at}
 use Rattle.rules.proofs.Places.{last_one}
 use Rattle.unit.specs.Ahead.{taken_ahead}
-use borrow.Author.Rules.{rules}
 use Rattle.unit.proofs.many.taken_ahead.Goals as goal
 
 pub returns-in-0 : goal.returns-in-0

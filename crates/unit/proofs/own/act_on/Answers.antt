@@ -1,11 +1,9 @@
 -- Refused, or staged, acted and put back: what each call ensures comes to the book's act.
 use Rattle.unit.proofs.Settling.{own_lands, own_refused}
 use Rattle.unit.specs.Own.{own_turn}
-use Rattle.rules.specs.Step.{act}
 use Rattle.rules.specs.declared.answer.Turn.{Turn}
 use mathlib.Core.Path.{ap, ◌∙◌}
 use Rattle.basis.specs.Tests.{told}
-use borrow.Author.Rules.{rules}
 use Rattle.unit.proofs.own.act_on.Goals as goal
 
 pub returns-then-refuses : goal.returns-then-refuses

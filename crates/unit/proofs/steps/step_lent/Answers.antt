@@ -9,7 +9,6 @@ use Rattle.basis.specs.Choice.{pick}
 use Rattle.unit.proofs.InBlock.{given_steps, taken_steps, octet_steps}
 use Rattle.unit.proofs.Settling.{steps_by, own_at_lem, own_last}
 use Rattle.answers.proofs.Settling.{none_refused}
-use borrow.Author.Rules.{rules}
 use Rattle.unit.proofs.steps.step_lent.Goals as goal
 
 pub returns-then-possible-short : goal.returns-then-possible-short

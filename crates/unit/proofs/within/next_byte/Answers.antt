@@ -8,7 +8,6 @@ use Rattle.basis.specs.Choice.{pick}
 use Prim.Native.Nat.{ℕ}
 use mathlib.Core.List.{List}
 use mathlib.Core.Path.{ap₂, sym, ◌∙◌}
-use borrow.Author.Rules.{rules}
 use Rattle.unit.proofs.within.next_byte.Goals as goal
 
 pub returns-in-0 : goal.returns-in-0

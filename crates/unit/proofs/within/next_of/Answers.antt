@@ -2,7 +2,6 @@
 use Rattle.port.proofs.Whole.{whole}
 use Rattle.unit.specs.Within.{next_of}
 use Rattle.basis.specs.Choice.{pick}
-use borrow.Author.Rules.{rules}
 use Rattle.unit.proofs.within.next_of.Goals as goal
 
 pub byte_of-requires : goal.byte_of-requires

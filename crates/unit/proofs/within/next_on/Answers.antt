@@ -7,7 +7,6 @@ use Rattle.basis.specs.Choice.{pick}
 use Rattle.rules.specs.Unit.{one_of}
 use Rattle.rules.proofs.Places.{last_one}
 use Rattle.unit.specs.Within.{next_of}
-use borrow.Author.Rules.{rules}
 use Rattle.unit.proofs.within.next_on.Goals as goal
 
 pub returns-in-0 : goal.returns-in-0

@@ -1,5 +1,4 @@
 use Rattle.basis.specs.Choice.{pick}
-use borrow.Author.Rules.{rules}
 use Rattle.unit.proofs.within.taken_inside.Goals as goal
 
 pub returns-then-next : goal.returns-then-next

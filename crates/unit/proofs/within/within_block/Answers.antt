@@ -2,7 +2,6 @@
 use borrow.Author.Tests.{lt-ltb, le-ltb}
 use Rattle.basis.specs.Choice.{pick}
 use Rattle.unit.specs.Within.{inside_of}
-use borrow.Author.Rules.{rules}
 use Rattle.unit.proofs.within.within_block.Goals as goal
 
 pub returns-then-n-writes : goal.returns-then-n-writes

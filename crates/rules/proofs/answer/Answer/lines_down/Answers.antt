@@ -1,4 +1,3 @@
-use borrow.Author.Rules.{rules}
 use Rattle.rules.proofs.Numbers.{down_by}
 use Rattle.rules.proofs.answer.Answer.lines_down.Goals as goal
 

@@ -1,4 +1,3 @@
-use borrow.Author.Rules.{rules}
 use Rattle.rules.proofs.Numbers.{refuses_by}
 use Rattle.rules.proofs.answer.Answer.refuses.Goals as goal
 

@@ -1,4 +1,3 @@
-use borrow.Author.Rules.{rules}
 use Rattle.rules.proofs.drive.Latched.with.Goals as goal
 
 pub returns-in-Cni : goal.returns-in-Cni

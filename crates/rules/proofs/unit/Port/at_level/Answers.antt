@@ -1,4 +1,3 @@
-use borrow.Author.Rules.{rules}
 use Rattle.rules.proofs.unit.Port.at_level.Goals as goal
 
 pub returns : goal.returns
