@@ -44,7 +44,7 @@ pub struct Process {
 
 impl Process {
     /// A `replay`: document 01 fixes no exit status, but 126 and above are a shell's or a signal's.
-    /// The time is generous: a slow emulator on a busy machine stays far below it.
+    /// The time is generous: a slow and busy machine stays far below it.
     pub fn replay(words: Vec<String>, limit: Duration) -> Process {
         Process { words, limit, pace: Duration::from_micros(200), most_status: 125 }
     }
