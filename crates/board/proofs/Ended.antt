@@ -82,6 +82,17 @@ read_most d t ph count k ends is some =
     only_if block ahead k (only_if (reads d) (pick block ahead 0) k is some) some ∙ all.ahead
 
 -- a bool by its byte
+pub flag_true : (b : Bool) → flag b ≡ 1 → b ≡ true
+flag_true true e = refl
+flag_true false e = absurd (none (flag false) refl e)
+  where
+    none : (n : ℕ) → n ≡ 0 → n ≡ 1 → ⊥
+    none n p q = omega (arith, p, q)
+
+pub flag_false : (b : Bool) → (flag b ≡ 1 → ⊥) → b ≡ false
+flag_false true other = absurd (other refl)
+flag_false false other = refl
+
 flag_back : (b : Bool) → eqb (flag b) 1 ≡ b
 flag_back true = refl
 flag_back false = refl

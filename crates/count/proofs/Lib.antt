@@ -1,2 +1,5 @@
+mod Values
+mod Promised
+mod Within
 pub mod Outcomes
 pub mod Lands

@@ -1,3 +1,4 @@
+pub mod Phases
 pub mod Numbers
 pub mod Places
 pub mod Rooms
