@@ -2,4 +2,3 @@ mod Values
 mod Promised
 mod Within
 pub mod Outcomes
-pub mod Lands

@@ -13,15 +13,14 @@ use denote.Memory.{lone, part_at}
 use denote.Struct.At.{FieldAt, get_at}
 use denote.Struct.Field.{Field, rows}
 use denote.Struct.Struct.{to_tys}
-use borrow.Author.Tests.{le-leb, ne_eqb}
 use borrow.Rule.LendAt.{KeptOf, Fills}
 use borrow.Struct.Lend.{own_same, kept_record_as, put_record_as, record_fill_as, record_apart_as}
 use borrow.Table.OneValue.{One}
-use native.Mathlib.Omega.{arith}
 use Rattle.basis.specs.Choice.{pick}
 use Rattle.rules.specs.declared.drive.Drive.{Drive}
 use Rattle.rules.specs.declared.unit.Core.{Core}
 use Rattle.rules.specs.Unit.{one_of, put_at, put_last, drive_at, put_drive}
+use Rattle.rules.proofs.Places.{last_lands}
 use Rattle.rules.specs.contracts.drive.Drive as T
 use Rattle.rules.proofs.drive.Drive.TheLaws as T'
 use Rattle.rules.specs.contracts.unit.Core as K
@@ -125,5 +124,5 @@ drive_within (suc (suc zero)) i e = is_so e (within 2 56 (λ x. x) (λ x. x) (ow
 drive_within (suc (suc (suc zero))) i e = is_so e (within 3 88 (λ x. x) (λ x. x) (own_same T.the_type) lies_so refl refl refl 2 (λ f c. refl))
 drive_within (suc (suc (suc (suc zero)))) i n =
     within 4 120 (λ x. x) (λ x. x) (own_same T.the_type) lies_so refl refl refl i
-    (λ f c. rw (ne_eqb i 0 n.0.0.1, ne_eqb i 1 n.0.1, ne_eqb i 2 n.1, le-leb 3 i (omega (arith, n.0.0.1, n.0.1, n.1))))
+    (λ f c. last_lands f c i (f c.drive3) n.0.0.1 n.0.1 n.1 refl)
 drive_within (suc (suc (suc (suc (suc k))))) i never = absurd never

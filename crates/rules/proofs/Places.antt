@@ -8,7 +8,9 @@ use lib.Dec.{leb, eqb}
 use borrow.Author.Tests.{eqb-true, eqb-false, ne_eqb, le-leb}
 use Rattle.basis.specs.Choice.{pick}
 use Rattle.basis.proofs.Choosing.{choice_holds}
-use Rattle.rules.specs.Unit.{Lent, lent, one_of, put_at, put_last, tape_at, put_tape, put_staging}
+use Rattle.rules.specs.declared.drive.Drive.{Drive}
+use Rattle.rules.specs.declared.unit.Core.{Core}
+use Rattle.rules.specs.Unit.{Lent, lent, one_of, put_at, put_last, drive_at, put_drive, tape_at, put_tape, put_staging}
 
 -- The numbers of the four drives.
 pub data Four : ℕ → Type 0 where
@@ -59,6 +61,28 @@ pub last_tape : (l : Lent) (i : ℕ) (t : List ℕ) → (i ≡ 0 → ⊥) → (i
     → put_tape l i t ≡ lent l.staging l.tape0 l.tape1 l.tape2 t
 unfolding put_at put_last pick
 last_tape l i t p q r = rw (ne_eqb i 0 p, ne_eqb i 1 q, ne_eqb i 2 r, le-leb 3 i (omega (arith, p, q, r))) refl
+
+-- A drive changed where it stands in the core, by its number, is that drive put back: for any move of the record.
+module _ (moved : Drive → Drive) (c : Core) (i : ℕ) (d : Drive) where
+  pub first_lands : i ≡ 0 → d ≡ moved c.drive0
+      → ◌≡◌ {A = Core} (record { port = c.port; drive0 = d; drive1 = c.drive1; drive2 = c.drive2; drive3 = c.drive3 }) (put_drive c c.port i (moved (drive_at c i)))
+  unfolding pick one_of put_at put_last
+  first_lands is e = rw (is, e)
+
+  pub second_lands : i ≡ 1 → d ≡ moved c.drive1
+      → ◌≡◌ {A = Core} (record { port = c.port; drive0 = c.drive0; drive1 = d; drive2 = c.drive2; drive3 = c.drive3 }) (put_drive c c.port i (moved (drive_at c i)))
+  unfolding pick one_of put_at put_last
+  second_lands is e = rw (is, e)
+
+  pub third_lands : i ≡ 2 → d ≡ moved c.drive2
+      → ◌≡◌ {A = Core} (record { port = c.port; drive0 = c.drive0; drive1 = c.drive1; drive2 = d; drive3 = c.drive3 }) (put_drive c c.port i (moved (drive_at c i)))
+  unfolding pick one_of put_at put_last
+  third_lands is e = rw (is, e)
+
+  pub last_lands : (i ≡ 0 → ⊥) → (i ≡ 1 → ⊥) → (i ≡ 2 → ⊥) → d ≡ moved c.drive3
+      → ◌≡◌ {A = Core} (record { port = c.port; drive0 = c.drive0; drive1 = c.drive1; drive2 = c.drive2; drive3 = d }) (put_drive c c.port i (moved (drive_at c i)))
+  unfolding pick one_of put_at put_last
+  last_lands p q r e = rw (ne_eqb i 0 p, ne_eqb i 1 q, ne_eqb i 2 r, le-leb 3 i (omega (arith, p, q, r)), e)
 
 -- The other three are as they were.
 pub put_other : {A : Type 0} {i j : ℕ} (x a b c d : A) → Four i → Four j → (i ≡ j → ⊥)
