@@ -2,6 +2,7 @@
 use mathlib.Core.Path.{ap}
 use mathlib.Core.Bool.{Bool}
 use mathlib.Core.List.{[]}
+use Rattle.std.specs.Prelude.{Option, Some}
 use Rattle.basis.specs.Tests.{same}
 use Rattle.rules.specs.declared.unit.Core.{Core}
 use Rattle.rules.specs.declared.event.Event.{Event}
@@ -11,7 +12,7 @@ use Rattle.rules.specs.Step.{Stepped}
 use Rattle.answers.specs.Outcomes.{OneTurn, OneOutcome}
 
 -- read off what is lent, whatever that is
-one_turn : (c : Core) (p s : Bool) (e : Event) → OneTurn c p s e
+one_turn : (c : Core) (p s : Bool) (e : Option Event) → OneTurn c p s e
 one_turn c p s e r r' x y = let l = lent [] [] [] [] [] in ap (λ (z : Stepped). z.turn) (same (x l) (y l))
 
 pub one_outcome : OneOutcome
@@ -32,10 +33,10 @@ one_outcome =
       unless = λ fits a r r' p q. same p q;
       refusal_by = λ ok fits a r r' p q. same p q;
       look = λ c i r r' p q. same p q;
-      slot = λ c p s i w. one_turn c p s (Named i w);
-      reset = λ c p s. one_turn c p s Reset;
+      slot = λ c p s i w. one_turn c p s (Some (Named i w));
+      reset = λ c p s. one_turn c p s (Some Reset);
       moved_to = λ c ph r r' p q. same p q;
-      moved_on = λ c ph given b direction r r' p q. same p q;
-      done = λ raised given b c r r' p q. same p q;
+      moved_on = λ c ph b direction r r' p q. same p q;
+      done = λ raised b c r r' p q. same p q;
       refuse = λ a c r r' p q. same p q;
     }

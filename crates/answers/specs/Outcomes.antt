@@ -1,5 +1,5 @@
 -- Each public contract leaves one outcome: any two that it allows are equal.
-use Rattle.std.specs.Prelude.{ℕ, ◌≡◌, Bool, ◌&&◌, List, leb}
+use Rattle.std.specs.Prelude.{ℕ, ◌≡◌, Bool, ◌&&◌, List, leb, Option, Some}
 use Rattle.basis.specs.Choice.{pick}
 use Rattle.tape.specs.Record.{longest}
 use Rattle.rules.specs.declared.drive.Drive.{Drive}
@@ -29,11 +29,11 @@ abbrev pub short_by : ℕ → ℕ → ℕ → ℕ → Bool
 short_by a b c d = leb a longest && (leb b longest && (leb c longest && leb d longest))
 
 -- Two turns that settle one event.
-abbrev pub OneTurn : Core → Bool → Bool → Event → Type 0
+abbrev pub OneTurn : Core → Bool → Bool → Option Event → Type 0
 OneTurn c p s e = (r r' : Turn) → Settles c p s e r → Settles c p s e r' → r ≡ r'
 
 pub record OneOutcome : Type 0 where
-  pub event_of : (l : List ℕ) (r r' : Event) → r ≡ event_of l → r' ≡ event_of l → r ≡ r'
+  pub event_of : (l : List ℕ) (r r' : Option Event) → r ≡ event_of l → r' ≡ event_of l → r ≡ r'
   pub lines : (c : Core) (r r' : Lines) → r ≡ lines_of c → r' ≡ lines_of c → r ≡ r'
   pub given_place : (ph : Phase) (l : List ℕ) (r r' : ℕ) → r ≡ given_place ph l → r' ≡ given_place ph l → r ≡ r'
   pub taken_place : (ph : Phase) (l : List ℕ) (r r' : ℕ) → r ≡ taken_place ph l → r' ≡ taken_place ph l → r ≡ r'
@@ -48,11 +48,11 @@ pub record OneOutcome : Type 0 where
   pub unless : (fits : Bool) (a r r' : Answer) → r ≡ pick fits Taken a → r' ≡ pick fits Taken a → r ≡ r'
   pub refusal_by : (p s : Bool) (a r r' : Answer) → r ≡ refusal_by p s a → r' ≡ refusal_by p s a → r ≡ r'
   pub look : (c : Core) (i : ℕ) (r r' : Seen) → r ≡ look_of (drive_at c i) → r' ≡ look_of (drive_at c i) → r ≡ r'
-  pub slot : (c : Core) (p s : Bool) (i : ℕ) (w : What) → OneTurn c p s (Named i w)
-  pub reset : (c : Core) (p s : Bool) → OneTurn c p s Reset
+  pub slot : (c : Core) (p s : Bool) (i : ℕ) (w : What) → OneTurn c p s (Some (Named i w))
+  pub reset : (c : Core) (p s : Bool) → OneTurn c p s (Some Reset)
   pub moved_to : (c : Core) (ph : Phase) (r r' : Core) → r ≡ moved_to c ph → r' ≡ moved_to c ph → r ≡ r'
-  pub moved_on : (c : Core) (ph : Phase) (given : Bool) (b : ℕ) (direction : Bool) (r r' : Turn)
-      → r ≡ moved_on c ph given b direction → r' ≡ moved_on c ph given b direction → r ≡ r'
-  pub done : (raised given : Bool) (b : ℕ) (c : Core) (r r' : Turn)
-      → r ≡ taken_turn raised given b c → r' ≡ taken_turn raised given b c → r ≡ r'
+  pub moved_on : (c : Core) (ph : Phase) (b : Option ℕ) (direction : Bool) (r r' : Turn)
+      → r ≡ moved_on c ph b direction → r' ≡ moved_on c ph b direction → r ≡ r'
+  pub done : (raised : Bool) (b : Option ℕ) (c : Core) (r r' : Turn)
+      → r ≡ taken_turn raised b c → r' ≡ taken_turn raised b c → r ≡ r'
   pub refuse : (a : Answer) (c : Core) (r r' : Turn) → r ≡ refused_turn a c → r' ≡ refused_turn a c → r ≡ r'

@@ -1,4 +1,4 @@
-// What a drive has and does, by its number: each drive is called by its name, since a look by number copies the record.
+// What a drive has and does, by its number.
 ghost use Rattle.std.specs.Prelude.{◌≡◌};
 ghost use Rattle.rules.specs.Unit.{drive_at};
 ghost use Rattle.answers.specs.Looks.{look_of};
@@ -24,10 +24,5 @@ fn sight(drive: Drive) -> Seen
 pub fn look(core: Core, i: u8) -> Seen
     ensures { result ≡ look_of (drive_at core i) }
 {
-    match i {
-        0 => sight(core.drive0),
-        1 => sight(core.drive1),
-        2 => sight(core.drive2),
-        _ => sight(core.drive3),
-    }
+    sight(core.drive(i))
 }

@@ -35,12 +35,8 @@ fn late_fits(mode: Mode, late: u8) -> bool
 pub fn possible_drive(drive: Drive) -> bool
     ensures { result ≡ possible_drive drive }
 {
-    let mode = drive.mode;
-    if drive.head <= LONGEST {
-        let slot = mode_fits(mode, drive.loaded, drive.protected);
-        return slot & late_fits(mode, drive.late);
-    }
-    false
+    (drive.head <= LONGEST)
+        & (mode_fits(drive.mode, drive.loaded, drive.protected) & late_fits(drive.mode, drive.late))
 }
 
 // A part block given needs the selected drive Writing, taken needs it Reading; octets outstanding are 1 to 6.
@@ -59,39 +55,23 @@ fn possible_phase(phase: Phase, mode: Mode) -> bool
 pub fn possible_at(phase: Phase, drive: Drive) -> bool
     ensures { result ≡ possible_phase phase drive.mode }
 {
-    let mode = drive.mode;
-    possible_phase(phase, mode)
+    possible_phase(phase, drive.mode)
 }
 
-// The phase beside the selected drive: each drive is called by its name, since a look by number copies the record.
+// The phase beside the selected drive.
 fn possible_place(core: Core) -> bool
     ensures { result ≡ possible_phase core.port.phase (drive_at core core.port.selected).mode }
 {
-    let port = core.port;
-    let phase = port.phase;
-    let i = port.selected;
-    match i {
-        0 => possible_at(phase, core.drive0),
-        1 => possible_at(phase, core.drive1),
-        2 => possible_at(phase, core.drive2),
-        _ => possible_at(phase, core.drive3),
-    }
+    possible_at(core.port.phase, core.drive(core.port.selected))
 }
 
 // The selected drive's number, the phase, and each of the four drives.
 pub fn possible(core: Core) -> bool
     ensures { result ≡ possible core }
 {
-    let number = core.port.selected <= LAST_DRIVE;
-    let place = possible_place(core);
-    if number & place {
-        if possible_drive(core.drive0) {
-            if possible_drive(core.drive1) {
-                if possible_drive(core.drive2) {
-                    return possible_drive(core.drive3);
-                }
-            }
-        }
-    }
-    false
+    (core.port.selected <= LAST_DRIVE)
+        & (possible_place(core)
+            & (possible_drive(core.drive0)
+                & (possible_drive(core.drive1)
+                    & (possible_drive(core.drive2) & possible_drive(core.drive3)))))
 }

@@ -19,12 +19,7 @@ pub fn short(tape0: usize, tape1: usize, tape2: usize, tape3: usize) -> bool
 fn takes(phase: Phase, writing: bool) -> bool
     ensures { result ≡ takes phase writing }
 {
-    match phase {
-        Phase::Rest => writing,
-        Phase::Taking(_) => writing,
-        Phase::Giving(_) => false,
-        Phase::Status(_) => false,
-    }
+    matches!(phase, Phase::Rest | Phase::Taking(_)) & writing
 }
 
 // A byte taken asks for Status, for a block under way, or for Reading without EXCEPTION at Rest.
@@ -32,10 +27,9 @@ fn gives(phase: Phase, reading: bool) -> bool
     ensures { result ≡ gives phase reading }
 {
     match phase {
-        Phase::Taking(_) => false,
-        Phase::Giving(_) => true,
-        Phase::Status(_) => true,
         Phase::Rest => reading,
+        Phase::Taking(_) => false,
+        Phase::Giving(_) | Phase::Status(_) => true,
     }
 }
 

@@ -9,18 +9,13 @@ ghost use Rattle.answers.specs.Settled.{Settles};
 use crate::looks::look;
 use crate::refusal::{refusal_by, slot_answer};
 use crate::turn::{done, refuse};
-use count::{count_errors, count_underruns};
-use rules::{Answer, Core, Phase, Turn, What};
+use count::count_in;
+use rules::{Answer, Core, Errors, Phase, Turn, Underruns, What};
 
 fn is_out(what: What) -> bool
     ensures { result ≡ is_out what }
 {
-    match what {
-        What::In(_) => false,
-        What::Out => true,
-        What::Error => false,
-        What::Underrun => false,
-    }
+    matches!(what, What::Out)
 }
 
 // A part block is dropped, but Status stays.
@@ -28,10 +23,8 @@ fn part_dropped(phase: Phase) -> Phase
     ensures { result ≡ part_dropped phase }
 {
     match phase {
-        Phase::Rest => Phase::Rest,
-        Phase::Taking(_) => Phase::Rest,
-        Phase::Giving(_) => Phase::Rest,
         Phase::Status(k) => Phase::Status(k),
+        _ => Phase::Rest,
     }
 }
 
@@ -67,30 +60,30 @@ fn befall(core: Core, i: u8, what: What) -> Core
     match what {
         What::In(plug) => cartridge_in(core, i, plug),
         What::Out => cartridge_out(core, i),
-        What::Error => count_errors(core, i),
-        What::Underrun => count_underruns(core, i),
+        What::Error => count_in::<Errors>(core, i),
+        What::Underrun => count_in::<Underruns>(core, i),
     }
 }
 
 // Refused, or the record of the drive named is changed, whichever is selected.
 pub fn slot(core: Core, possible: bool, short: bool, i: u8, what: What) -> Turn
-    ensures { Settles core possible short (Named i what) result }
+    ensures { Settles core possible short (Some (Named i what)) result }
 {
     let loaded = look(core, i).loaded;
     let answer = refusal_by(possible, short, slot_answer(loaded, what));
     if answer.refuses() {
         return refuse(answer, core);
     }
-    done(is_out(what), false, 0, befall(core, i, what))
+    done(is_out(what), None, befall(core, i, what))
 }
 
 // RESET, which nothing refuses but 5 and 6.
 pub fn reset(core: Core, possible: bool, short: bool) -> Turn
-    ensures { Settles core possible short Reset result }
+    ensures { Settles core possible short (Some Reset) result }
 {
     let answer = refusal_by(possible, short, Answer::Taken);
     if answer.refuses() {
         return refuse(answer, core);
     }
-    done(true, false, 0, core.reset())
+    done(true, None, core.reset())
 }

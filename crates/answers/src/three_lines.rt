@@ -10,16 +10,12 @@ use rules::{Answer, Core, Lines};
 pub fn lines(core: Core) -> Lines
     ensures { result ≡ lines_of core }
 {
-    let port = core.port;
-    let phase = port.phase;
-    let drive = core.drive(port.selected);
-    let rests = phase.rest_or_status();
-    let status = phase.is_status();
-    let reading = drive.reads();
+    let phase = core.port.phase;
+    let drive = core.drive(core.port.selected);
     Lines {
-        ready: !drive.exception & rests,
+        ready: !drive.exception & phase.rest_or_status(),
         exception: drive.exception,
-        direction: status | reading,
+        direction: phase.is_status() | drive.reads(),
     }
 }
 

@@ -21,14 +21,13 @@ fn taken(raised: bool) -> Answer
 }
 
 // An event that was taken, and the core as it is left.
-pub fn done(raised: bool, given: bool, byte: u8, core: Core) -> Turn
-    ensures { result ≡ taken_turn raised given byte core }
+pub fn done(raised: bool, byte: Option<u8>, core: Core) -> Turn
+    ensures { result ≡ taken_turn raised byte core }
 {
     let answer = taken(raised);
     let lines = lines(core);
     Turn {
         answer,
-        given,
         byte,
         lines,
         core,
@@ -42,8 +41,7 @@ pub fn refuse(answer: Answer, core: Core) -> Turn
     let lines = lines_after(answer, core);
     Turn {
         answer,
-        given: false,
-        byte: 0,
+        byte: None,
         lines,
         core,
     }
@@ -53,21 +51,19 @@ pub fn refuse(answer: Answer, core: Core) -> Turn
 pub fn moved_to(core: Core, phase: Phase) -> Core
     ensures { result ≡ moved_to core phase }
 {
-    let p = core.port;
-    let port = p.at_phase(phase);
-    let mut after = core;
-    after.port = port;
-    after
+    Core {
+        port: core.port.at_phase(phase),
+        ..core
+    }
 }
 
 // The phase moved on, no EXCEPTION, and DIRECTION up where the host takes bytes.
-pub fn moved_on(core: Core, phase: Phase, given: bool, byte: u8, direction: bool) -> Turn
-    ensures { result ≡ moved_on core phase given byte direction }
+pub fn moved_on(core: Core, phase: Phase, byte: Option<u8>, direction: bool) -> Turn
+    ensures { result ≡ moved_on core phase byte direction }
 {
     let after = moved_to(core, phase);
     Turn {
         answer: Answer::Taken,
-        given,
         byte,
         lines: Lines {
             ready: false,

@@ -3,6 +3,7 @@ use Prim.Native.Nat.{ℕ, ◌≤◌}
 use mathlib.Core.Path.{◌≡◌, refl, sym, ap, ap₂, subst, ◌∙◌}
 use mathlib.Core.Bool.{Bool, true, false≢true}
 use mathlib.Core.List.{List, [], ◌∷◌}
+use Rattle.std.specs.Prelude.{Option, None, Some, is_some, unwrap_or}
 use native.Mathlib.Omega.{arith}
 use lib.ListN.{length}
 use Rattle.rules.specs.declared.answer.Answer.{Answer}
@@ -21,10 +22,10 @@ use Rattle.unit.specs.Handover.{up_to, turns_up_to, went_in, went_out, over, han
 use Rattle.unit.proofs.Demands.{demands_hold}
 use Rattle.unit.proofs.Handover.{handover_ran}
 use Rattle.layout.specs.Number.{byte_at}
-use Rattle.layout.specs.Written.{unit, Sized, unit_bytes}
+use Rattle.layout.specs.Written.{flag, unit, Sized, unit_bytes}
 use Rattle.layout.specs.Read.{is_record, core_of, staging_of, unit_of}
 use Rattle.board.specs.Serve.{Tapes, lent_with, Serves, Gives, Takes, holds}
-use Rattle.board.specs.Laws.{FreshHeld, RefusedKeeps, no_call, next_call, world_of, CallsRun, RunUpTo, GivesRun, TakesRun}
+use Rattle.board.specs.Laws.{FreshHeld, RefusedKeeps, NoByteIsZero, no_call, next_call, world_of, CallsRun, RunUpTo, GivesRun, TakesRun}
 use Rattle.layout.proofs.Back.{read_back}
 use Rattle.layout.proofs.Form.{one_form}
 use Rattle.board.proofs.Outcomes.{tapes_in}
@@ -57,6 +58,15 @@ refused_keeps l t event out l' t' small (Serves.of_record so p) h =
     let found = (demands_hold.answered (core_of l) (lent_with (staging_of l) t) event p.turn (lent_with p.staging t') p.steps).refused
     (refuses p.turn.answer number) in
     (p.left ∙ ap₂ (λ c (g : Lent). unit_bytes (unit c g.staging)) found.core found.lent ∙ one_form l small so, ap tapes_in found.lent)
+
+pub no_byte_is_zero : NoByteIsZero
+no_byte_is_zero l t event out l' t' (Serves.of_none none p) h = ap (λ (x : List ℕ). byte_at x 2) p.result
+no_byte_is_zero l t event out l' t' (Serves.of_record so p) h =
+    ap (λ (x : List ℕ). byte_at x 2) p.result ∙ go p.turn.byte (sym (ap (λ (x : List ℕ). byte_at x 1) p.result) ∙ h)
+  where
+    go : (o : Option ℕ) → flag (is_some o) ≡ 0 → unwrap_or o 0 ≡ 0
+    go None e = refl
+    go (Some b) e = absurd (omega (arith, e))
 
 -- a record that was written, read again, is what was written
 left_again : (l' : List ℕ) (t' : Tapes) (c : Core) (g : List ℕ) → l' ≡ unit_bytes (unit c g) → Sized (unit c g)

@@ -3,6 +3,7 @@ use Prim.Native.Nat.{ℕ, ◌+◌, ◌-◌, ◌≤◌, ◌<◌}
 use mathlib.Core.Path.{◌≡◌, refl, sym, ap, ◌∙◌}
 use mathlib.Core.Bool.{Bool, true, false, ◌&&◌, ◌||◌, not, false≢true}
 use mathlib.Core.List.{List, [], ◌∷◌, ◌++◌}
+use Rattle.std.specs.Prelude.{Option, None, Some, is_some, unwrap_or, option_to_list}
 use native.Mathlib.Omega.{arith}
 use native.Mathlib.Nat.{add-zero}
 use lib.ListN.{length, get_or, take, drop, set, length-drop, take-append-drop}
@@ -11,6 +12,7 @@ use lib.Dec.{eqb, ltb}
 use borrow.Author.Tests.{eqb-true, ltb-true, le-ltb}
 use Rattle.basis.specs.Choice.{pick}
 use Rattle.basis.specs.Placed.{placed}
+use Rattle.basis.proofs.Placing.{placed_none, placed_sets}
 use Rattle.tape.specs.Record.{body_size, found_at}
 use Rattle.rules.specs.declared.drive.Drive.{Drive}
 use Rattle.rules.specs.declared.answer.Answer.{Answer}
@@ -97,6 +99,12 @@ flag_back : (b : Bool) → eqb (flag b) 1 ≡ b
 flag_back true = refl
 flag_back false = refl
 
+-- a byte that was handed out is put where it goes
+byte_put : (l : List ℕ) (k : ℕ) → k < length l → (o : Option ℕ) → pick (is_some o) (set l k (unwrap_or o 0)) l ≡ placed l k (option_to_list o)
+unfolding pick
+byte_put l k inside None = sym (placed_none l k)
+byte_put l k inside (Some b) = sym (placed_sets l k (b ∷ []) (omega (arith, inside)))
+
 -- answers 0 and 1 are those that refuse nothing
 pub went_by_number : (a : Answer) (k : ℕ) → pick (ltb (row_of a).number 2) (k + 1) k ≡ k + pick (not (row_of a).refuses) 1 0
 unfolding pick
@@ -171,7 +179,7 @@ module _ (l : List ℕ) (t t₂ : Tapes) (l₁ out l₂ : List ℕ) (small : Oct
       let all = all_but_one (at_rest c.port.phase) n (length bytes) ends in
       let lent₀ = lent_with (staging_of l) t in
       let ahead : k ≡ given_ahead c (possible c && short lent₀) (length bytes) = rw (calm, writing) (sym all.ahead) in
-      let last = moved_on c (Taking (n + k)) false 0 false in
+      let last = moved_on c (Taking (n + k)) None false in
       let first = given_leg c lent₀ bytes k last g (staging_long l so) ahead (omega (arith, all.two)) refl refl in
       let byte : get_or (drop k bytes) 0 0 ≡ get_or bytes k 0 = get_or-drop k bytes 0 0 ∙ ap (λ (m : ℕ). get_or bytes m 0) (add-zero k) in
       let step = rw (moved_core l small so (Taking (n + k)) g long l₁ is, moved_staging l small so (Taking (n + k)) g long l₁ is, ← byte) at served.steps in
@@ -209,22 +217,22 @@ module _ (l : List ℕ) (t t₂ : Tapes) (l₁ out l₂ : List ℕ) (small : Oct
       let tape = tape_at lent₀ c.port.selected in
       let whole : length bytes ≡ length bytes - 0 = omega arith in
       let ahead : k ≡ taken_ahead c (possible c && short lent₀) tape (length bytes - 0) = rw (calm, ← whole) read.count in
-      let last = moved_on c (Giving (n + k)) true (get_or bytes₁ (0 + k - 1) 0) true in
+      let last = moved_on c (Giving (n + k)) (Some (get_or bytes₁ (0 + k - 1) 0)) true in
       let first = taken_leg c lent₀ bytes 0 k last bytes₁ long (omega arith) ahead some read.bytes refl in
       let step = rw (moved_core l small so (Giving (n + k)) g long l₁ is, moved_staging l small so (Giving (n + k)) g long l₁ is) at served.steps in
       let turn = served.turn in
-      let given : eqb (get_or out 1 0) 1 ≡ turn.given = ap (λ (o : List ℕ). eqb (get_or o 1 0) 1) served.result ∙ flag_back turn.given in
-      let byte : get_or out 2 0 ≡ turn.byte = ap (λ (o : List ℕ). get_or o 2 0) served.result in
+      let given : eqb (get_or out 1 0) 1 ≡ is_some turn.byte = ap (λ (o : List ℕ). eqb (get_or o 1 0) 1) served.result ∙ flag_back (is_some turn.byte) in
+      let byte : get_or out 2 0 ≡ unwrap_or turn.byte 0 = ap (λ (o : List ℕ). get_or o 2 0) served.result in
       let most : k ≡ length bytes - 1 = read_most (drive_at c c.port.selected) tape ph (length bytes) k ends read.count some in
       let inside : k < length bytes₁ = omega (arith, most, size, all.two) in
       let second =
-      taken_one (moved_to c (Giving (n + k))) lent₀ bytes₁ k (pick turn.given 1 0) turn (lent_with served.staging t₂) bytes₂ long inside step refl (rw (given, byte) at put) in
+      taken_one (moved_to c (Giving (n + k))) lent₀ bytes₁ k (pick (is_some turn.byte) 1 0) turn (lent_with served.staging t₂) bytes₂ long inside step refl (rw (given, byte) at put ∙ byte_put bytes₁ k inside turn.byte) in
       record {
-        handed = record { count = k + pick turn.given 1 0; last = turn };
+        handed = record { count = k + pick (is_some turn.byte) 1 0; last = turn };
         staging = served.staging;
         is =
             taken_completed c lent₀ lent₀ (lent_with served.staging t₂) (record { count = k; last = last })
-            (record { count = pick turn.given 1 0; last = turn }) refl (sizes g long) (sizes' g served.staging long served.sized.staging) bytes
+            (record { count = pick (is_some turn.byte) 1 0; last = turn }) refl (sizes g long) (sizes' g served.staging long served.sized.staging) bytes
             bytes₁ bytes₂ size first second (omega (arith, most));
         count = rw (given) at count;
         result = served.result;

@@ -3,6 +3,7 @@ use Prim.Native.Nat.{ℕ, ◌+◌}
 use mathlib.Core.Path.{◌≡◌, refl, sym, ap, subst, ◌∙◌}
 use mathlib.Core.Bool.{true, false, ◌&&◌}
 use mathlib.Core.List.{List, ◌∷◌, ◌++◌, append-nil}
+use Rattle.std.specs.Prelude.{Some, is_some, unwrap_or}
 use native.Mathlib.Omega.{arith}
 use lib.ListN.{length, take, drop, length-append, length-drop, drop_of_length-le}
 use lib.Seq.{length-take-le}
@@ -58,17 +59,17 @@ octets_six l = refl
 -- a byte within a block, staged and its phase written where they stand, is the step on what the buffer holds
 pub byte_served : (l : List ℕ) (t : Tapes) (event : List ℕ) (i : Inside) (g out l' : List ℕ) → Octets l → is_record l ≡ true
     → (possible (core_of l) && short (lent_with (staging_of l) t)) ≡ true
-    → i ≡ inside_of (core_of l).port.phase (drive_at (core_of l) (core_of l).port.selected) (tape_at (lent_with (staging_of l) t) (core_of l).port.selected) event
-    → i.there ≡ true → g ≡ staged (core_of l).port.phase i.act (staging_of l) → length g ≡ body_size
-    → out ≡ (row_of Taken).number ∷ flag i.given ∷ i.byte ∷ lines_bytes (record { ready = false; exception = false; direction = i.given })
+    → inside_of (core_of l).port.phase (drive_at (core_of l) (core_of l).port.selected) (tape_at (lent_with (staging_of l) t) (core_of l).port.selected) event ≡ Some i
+    → g ≡ staged (core_of l).port.phase i.act (staging_of l) → length g ≡ body_size
+    → out ≡ (row_of Taken).number ∷ flag (is_some i.byte) ∷ unwrap_or i.byte 0 ∷ lines_bytes (record { ready = false; exception = false; direction = is_some i.byte })
     → l' ≡ placed (take 146 l ++ g) phase_at (phase_bytes i.phase) → Served l t event out l' t
-byte_served l t event i g out l' small so calm found there put long result left =
+byte_served l t event i g out l' small so calm found put long result left =
     record {
-      turn = moved_on (core_of l) i.phase i.given i.byte i.given;
+      turn = moved_on (core_of l) i.phase i.byte (is_some i.byte);
       staging = g;
       steps =
-          subst (λ (x : List ℕ). Steps (core_of l) (lent_with (staging_of l) t) event (moved_on (core_of l) i.phase i.given i.byte i.given) (lent_with x t))
-          (sym put) (inside_steps (core_of l) (lent_with (staging_of l) t) event i calm found there);
+          subst (λ (x : List ℕ). Steps (core_of l) (lent_with (staging_of l) t) event (moved_on (core_of l) i.phase i.byte (is_some i.byte)) (lent_with x t))
+          (sym put) (inside_steps (core_of l) (lent_with (staging_of l) t) event i calm found);
       result = result;
       left = left ∙ phase_moved l g i.phase small so long;
       sized = record { octets = octets_six l; staging = long };

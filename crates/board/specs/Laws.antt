@@ -19,6 +19,11 @@ abbrev pub RefusedKeeps : Type 0
 RefusedKeeps =
     (l : List ℕ) (t : Tapes) (event out l' : List ℕ) (t' : Tapes) → Octets l → Serves l t event out l' t' → 2 ≤ byte_at out 0 → (l' ≡ l) × (t' ≡ t)
 
+-- A result that says that no byte was given has 0 in the byte's place.
+abbrev pub NoByteIsZero : Type 0
+NoByteIsZero =
+    (l : List ℕ) (t : Tapes) (event out l' : List ℕ) (t' : Tapes) → Serves l t event out l' t' → byte_at out 1 ≡ 0 → byte_at out 2 ≡ 0
+
 -- Calls one after the other, each buffer handed on as the last call left it.
 pub data Used : List ℕ → Tapes → List (List ℕ) → List (List ℕ) → List ℕ → Tapes → Type 0 where
   no_call : {l : List ℕ} {t : Tapes} → Used l t [] [] l t

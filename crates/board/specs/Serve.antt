@@ -1,5 +1,5 @@
 -- What the exported functions are handed and leave, all of it bytes.
-use Rattle.std.specs.Prelude.{ℕ, ◌≡◌, Bool, true, false, ◌&&◌, List, [], ◌∷◌}
+use Rattle.std.specs.Prelude.{ℕ, ◌≡◌, Bool, true, false, ◌&&◌, List, [], ◌∷◌, is_some, unwrap_or}
 use Rattle.basis.specs.Choice.{pick}
 use Rattle.rules.specs.declared.answer.Answer.TheVariants.{Taken, Impossible}
 use Rattle.rules.specs.declared.answer.Lines.{Lines}
@@ -11,6 +11,7 @@ use Rattle.rules.specs.Lines.{lines_of, lines_down}
 use Rattle.rules.specs.Refusal.{possible}
 use Rattle.rules.specs.Step.{Steps}
 use Rattle.unit.specs.declared.many.Handed.{Handed}
+use Rattle.unit.specs.declared.tapes.Tapes as lends
 use Rattle.unit.specs.Handover.{GivesOver, TakesOver}
 use Rattle.layout.specs.Written.{flag, unit, Sized, unit_bytes}
 use Rattle.layout.specs.Read.{fits, is_record, core_of, staging_of}
@@ -25,15 +26,18 @@ pub record Tapes : Type 0 where
 abbrev pub tapes : List ℕ → List ℕ → List ℕ → List ℕ → Tapes
 tapes a b c d = record { tape0 = a; tape1 = b; tape2 = c; tape3 = d }
 
+abbrev pub tapes_of : lends.Tapes → Tapes
+tapes_of t = tapes t.tape0.now t.tape1.now t.tape2.now t.tape3.now
+
 abbrev pub lent_with : List ℕ → Tapes → Lent
 lent_with g t = lent g t.tape0 t.tape1 t.tape2 t.tape3
 
--- A result: the answer's number, whether a byte was given, the byte, the three lines.
+-- A result: the answer's number, whether a byte was given, the byte or 0, the three lines.
 abbrev pub lines_bytes : Lines → List ℕ
 lines_bytes l = flag l.ready ∷ flag l.exception ∷ flag l.direction ∷ []
 
 abbrev pub result_bytes : Turn → List ℕ
-result_bytes r = (row_of r.answer).number ∷ flag r.given ∷ r.byte ∷ lines_bytes r.lines
+result_bytes r = (row_of r.answer).number ∷ flag (is_some r.byte) ∷ unwrap_or r.byte 0 ∷ lines_bytes r.lines
 
 -- Of a buffer that is no record: 5, no byte, the lines down.
 abbrev pub no_record : List ℕ

@@ -11,6 +11,7 @@ use crate::{LINES, RESULT};
 use answers::lines;
 use layout::{RECORD, core_of, is_record, write_record};
 use rules::{Answer, Unit};
+use unit::Tapes;
 
 // The size of a record in bytes.
 #[unsafe(no_mangle)]
@@ -48,8 +49,14 @@ pub extern "C" fn glenoulty_step(
         event.now res.new buffer.new
         (tapes tape0.new tape1.new tape2.new tape3.new) }
 {
+    let mut tapes = Tapes {
+        tape0,
+        tape1,
+        tape2,
+        tape3,
+    };
     if is_record(buffer) {
-        *res = serve(buffer, tape0, tape1, tape2, tape3, event);
+        *res = serve(buffer, &mut tapes, event);
     } else {
         *res = no_record();
     }
@@ -70,8 +77,14 @@ pub extern "C" fn glenoulty_give(
         bytes.now result res.new buffer.new
         (tapes tape0.new tape1.new tape2.new tape3.new) }
 {
+    let mut tapes = Tapes {
+        tape0,
+        tape1,
+        tape2,
+        tape3,
+    };
     if is_record(buffer) {
-        return serve_given(buffer, tape0, tape1, tape2, tape3, bytes, res);
+        return serve_given(buffer, &mut tapes, bytes, res);
     }
     *res = no_record();
     0
@@ -93,8 +106,14 @@ pub extern "C" fn glenoulty_take(
         (tapes tape0.new tape1.new tape2.new tape3.new)
         bytes.new }
 {
+    let mut tapes = Tapes {
+        tape0,
+        tape1,
+        tape2,
+        tape3,
+    };
     if is_record(buffer) {
-        return serve_taken(buffer, tape0, tape1, tape2, tape3, bytes, res);
+        return serve_taken(buffer, &mut tapes, bytes, res);
     }
     *res = no_record();
     0

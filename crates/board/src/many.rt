@@ -9,18 +9,19 @@ ghost use Rattle.rules.specs.Unit.{drive_at};
 ghost use Rattle.rules.specs.Refusal.{possible, short};
 ghost use Rattle.layout.specs.Read.{is_record, core_of, staging_of};
 ghost use Rattle.unit.specs.Handover.{GivesOver, TakesOver};
-ghost use Rattle.board.specs.Serve.{tapes, lent_with, ServedMany};
+ghost use Rattle.unit.specs.Tapes.{Same};
+ghost use Rattle.board.specs.Serve.{tapes_of, lent_with, ServedMany};
 ghost use Rattle.board.specs.Ends.{ends_block};
 
 use crate::RESULT;
 use crate::judge::possible_in;
 use crate::serve::{serve_step, write_turn};
-use answers::{GIVEN, TAKEN, short};
+use answers::{GIVEN, TAKEN};
 use basis::put;
 use layout::{RECORD, STAGING, core_of, drive_in, port_in, write_phase};
 use rules::{LAST_PLACE, Phase, Port};
 use tape::BODY;
-use unit::{give_bytes, read_on, take_bytes};
+use unit::{Tapes, give_bytes, read_on, take_bytes};
 
 // Whether so many bytes, two or more, are the rest of a block in which n went over; at Rest a block begins.
 fn ends_block(rest: bool, n: usize, count: usize) -> bool
@@ -45,57 +46,40 @@ fn went_in(k: usize, answer: u8) -> usize
 // The rest of a block given to a drive that writes: all but its last byte staged where they stand, the last by the step.
 fn complete_given(
     buffer: &mut [u8],
-    tape0: &mut [u8],
-    tape1: &mut [u8],
-    tape2: &mut [u8],
-    tape3: &mut [u8],
+    tapes: &mut Tapes<'_>,
     bytes: &[u8],
     phase: Phase,
     res: &mut [u8; RESULT],
 ) -> usize
     requires { (is_record buffer.old ≡ true)
-        × (((possible (core_of buffer.old) && short (lent_with (staging_of buffer.old) (tapes tape0.old tape1.old tape2.old tape3.old))) ≡ true)
+        × (((possible (core_of buffer.old) && short (lent_with (staging_of buffer.old) (tapes_of tapes.old))) ≡ true)
         × ((writes (drive_at (core_of buffer.old) (core_of buffer.old).port.selected) ≡ true)
         × ((phase ≡ (core_of buffer.old).port.phase)
         × (ends_block (at_rest phase) (given_before phase) (length bytes.now) ≡ true)))) }
-    ensures { ServedMany (λ c l h l'. GivesOver c l bytes.now h l') buffer.old
-        (tapes tape0.old tape1.old tape2.old tape3.old) result res.new buffer.new
-        (tapes tape0.new tape1.new tape2.new tape3.new) }
+    ensures served { ServedMany (λ c l h l'. GivesOver c l bytes.now h l') buffer.old
+        (tapes_of tapes.old) result res.new buffer.new
+        (tapes_of tapes.new) }
+    ensures same { Same tapes.old tapes.new }
 {
     let n = phase.given_before();
     let k = bytes.len() - 1;
     put(&mut buffer[STAGING..RECORD], n, &bytes[0..k]);
     write_phase(buffer, Phase::Taking(n + k));
     let event = [GIVEN, bytes[k]];
-    *res = serve_step(buffer, tape0, tape1, tape2, tape3, &event);
+    *res = serve_step(buffer, tapes, &event);
     went_in(k, res[0])
 }
 
 // Any bytes given, by the unit's call.
-fn give_all(
-    buffer: &mut [u8],
-    tape0: &mut [u8],
-    tape1: &mut [u8],
-    tape2: &mut [u8],
-    tape3: &mut [u8],
-    bytes: &[u8],
-    res: &mut [u8; RESULT],
-) -> usize
+fn give_all(buffer: &mut [u8], tapes: &mut Tapes<'_>, bytes: &[u8], res: &mut [u8; RESULT]) -> usize
     requires { is_record buffer.old ≡ true }
-    ensures { ServedMany (λ c l h l'. GivesOver c l bytes.now h l') buffer.old
-        (tapes tape0.old tape1.old tape2.old tape3.old) result res.new buffer.new
-        (tapes tape0.new tape1.new tape2.new tape3.new) }
+    ensures served { ServedMany (λ c l h l'. GivesOver c l bytes.now h l') buffer.old
+        (tapes_of tapes.old) result res.new buffer.new
+        (tapes_of tapes.new) }
+    ensures same { Same tapes.old tapes.new }
 {
     let core = core_of(buffer);
-    let handed = give_bytes(
-        core,
-        &mut buffer[STAGING..RECORD],
-        tape0,
-        tape1,
-        tape2,
-        tape3,
-        bytes,
-    );
+    let handed = give_bytes(core, &mut buffer[STAGING..RECORD], tapes, bytes);
     let last = handed.last;
     *res = write_turn(buffer, last);
     handed.count
@@ -104,54 +88,42 @@ fn give_all(
 // Bytes given to a buffer that is a record.
 pub(crate) fn serve_given(
     buffer: &mut [u8],
-    tape0: &mut [u8],
-    tape1: &mut [u8],
-    tape2: &mut [u8],
-    tape3: &mut [u8],
+    tapes: &mut Tapes<'_>,
     bytes: &[u8],
     res: &mut [u8; RESULT],
 ) -> usize
     requires { is_record buffer.old ≡ true }
-    ensures { ServedMany (λ c l h l'. GivesOver c l bytes.now h l') buffer.old
-        (tapes tape0.old tape1.old tape2.old tape3.old) result res.new buffer.new
-        (tapes tape0.new tape1.new tape2.new tape3.new) }
+    ensures served { ServedMany (λ c l h l'. GivesOver c l bytes.now h l') buffer.old
+        (tapes_of tapes.old) result res.new buffer.new
+        (tapes_of tapes.new) }
+    ensures same { Same tapes.old tapes.new }
 {
     let port = port_in(buffer);
     let phase = port.phase;
     let drive = drive_in(buffer, port.selected);
     if ends_block(phase.at_rest(), phase.given_before(), bytes.len()) & drive.writes() {
-        if possible_in(buffer) & short(tape0.len(), tape1.len(), tape2.len(), tape3.len()) {
-            return complete_given(buffer, tape0, tape1, tape2, tape3, bytes, phase, res);
+        if possible_in(buffer) & tapes.short() {
+            return complete_given(buffer, tapes, bytes, phase, res);
         }
     }
-    give_all(buffer, tape0, tape1, tape2, tape3, bytes, res)
+    give_all(buffer, tapes, bytes, res)
 }
 
 // Any bytes taken, by the unit's call.
 fn take_all(
     buffer: &mut [u8],
-    tape0: &mut [u8],
-    tape1: &mut [u8],
-    tape2: &mut [u8],
-    tape3: &mut [u8],
+    tapes: &mut Tapes<'_>,
     bytes: &mut [u8],
     res: &mut [u8; RESULT],
 ) -> usize
     requires { is_record buffer.old ≡ true }
-    ensures { ServedMany (λ c l h l'. TakesOver c l bytes.old h l' bytes.new) buffer.old
-        (tapes tape0.old tape1.old tape2.old tape3.old) result res.new buffer.new
-        (tapes tape0.new tape1.new tape2.new tape3.new) }
+    ensures served { ServedMany (λ c l h l'. TakesOver c l bytes.old h l' bytes.new) buffer.old
+        (tapes_of tapes.old) result res.new buffer.new
+        (tapes_of tapes.new) }
+    ensures same { Same tapes.old tapes.new }
 {
     let core = core_of(buffer);
-    let handed = take_bytes(
-        core,
-        &mut buffer[STAGING..RECORD],
-        tape0,
-        tape1,
-        tape2,
-        tape3,
-        bytes,
-    );
+    let handed = take_bytes(core, &mut buffer[STAGING..RECORD], tapes, bytes);
     let last = handed.last;
     *res = write_turn(buffer, last);
     handed.count
@@ -173,56 +145,52 @@ fn keep_last(bytes: &mut [u8], k: usize, given: u8, byte: u8) -> usize
 // The rest of a block taken from a drive that reads: all but its last byte by one copy, the last by the step.
 fn complete_taken(
     buffer: &mut [u8],
-    tape0: &mut [u8],
-    tape1: &mut [u8],
-    tape2: &mut [u8],
-    tape3: &mut [u8],
+    tapes: &mut Tapes<'_>,
     bytes: &mut [u8],
     port: Port,
     res: &mut [u8; RESULT],
 ) -> usize
     requires { (is_record buffer.old ≡ true)
-        × (((possible (core_of buffer.old) && short (lent_with (staging_of buffer.old) (tapes tape0.old tape1.old tape2.old tape3.old))) ≡ true)
+        × (((possible (core_of buffer.old) && short (lent_with (staging_of buffer.old) (tapes_of tapes.old))) ≡ true)
         × ((port ≡ (core_of buffer.old).port)
         × (ends_block (at_rest port.phase) (taken_before port.phase) (length bytes.old) ≡ true))) }
-    ensures { ServedMany (λ c l h l'. TakesOver c l bytes.old h l' bytes.new) buffer.old
-        (tapes tape0.old tape1.old tape2.old tape3.old) result res.new buffer.new
-        (tapes tape0.new tape1.new tape2.new tape3.new) }
+    ensures served { ServedMany (λ c l h l'. TakesOver c l bytes.old h l' bytes.new) buffer.old
+        (tapes_of tapes.old) result res.new buffer.new
+        (tapes_of tapes.new) }
+    ensures same { Same tapes.old tapes.new }
 {
     let phase = port.phase;
     let i = port.selected;
     let drive = drive_in(buffer, i);
-    let k = read_on(drive, i, tape0, tape1, tape2, tape3, phase, bytes);
+    let k = read_on(drive, i, tapes, phase, bytes);
     if k == 0 {
-        return take_all(buffer, tape0, tape1, tape2, tape3, bytes, res);
+        return take_all(buffer, tapes, bytes, res);
     }
     write_phase(buffer, Phase::Giving(phase.taken_before() + k));
     let event = [TAKEN];
-    *res = serve_step(buffer, tape0, tape1, tape2, tape3, &event);
+    *res = serve_step(buffer, tapes, &event);
     keep_last(bytes, k, res[1], res[2])
 }
 
 // Bytes taken from a buffer that is a record.
 pub(crate) fn serve_taken(
     buffer: &mut [u8],
-    tape0: &mut [u8],
-    tape1: &mut [u8],
-    tape2: &mut [u8],
-    tape3: &mut [u8],
+    tapes: &mut Tapes<'_>,
     bytes: &mut [u8],
     res: &mut [u8; RESULT],
 ) -> usize
     requires { is_record buffer.old ≡ true }
-    ensures { ServedMany (λ c l h l'. TakesOver c l bytes.old h l' bytes.new) buffer.old
-        (tapes tape0.old tape1.old tape2.old tape3.old) result res.new buffer.new
-        (tapes tape0.new tape1.new tape2.new tape3.new) }
+    ensures served { ServedMany (λ c l h l'. TakesOver c l bytes.old h l' bytes.new) buffer.old
+        (tapes_of tapes.old) result res.new buffer.new
+        (tapes_of tapes.new) }
+    ensures same { Same tapes.old tapes.new }
 {
     let port = port_in(buffer);
     let phase = port.phase;
     if ends_block(phase.at_rest(), phase.taken_before(), bytes.len()) {
-        if possible_in(buffer) & short(tape0.len(), tape1.len(), tape2.len(), tape3.len()) {
-            return complete_taken(buffer, tape0, tape1, tape2, tape3, bytes, port, res);
+        if possible_in(buffer) & tapes.short() {
+            return complete_taken(buffer, tapes, bytes, port, res);
         }
     }
-    take_all(buffer, tape0, tape1, tape2, tape3, bytes, res)
+    take_all(buffer, tapes, bytes, res)
 }

@@ -1,5 +1,5 @@
 // What a call writes into the result that it is lent.
-ghost use Rattle.std.specs.Prelude.{◌≡◌, ◌∷◌, false};
+ghost use Rattle.std.specs.Prelude.{◌≡◌, ◌∷◌, false, is_some, unwrap_or};
 ghost use Rattle.rules.specs.Answer.{row_of};
 ghost use Rattle.layout.specs.Written.{flag};
 ghost use Rattle.rules.specs.declared.answer.Answer.TheVariants.{Taken};
@@ -19,28 +19,42 @@ pub(crate) fn lines_bytes(lines: Lines) -> [u8; LINES]
     ]
 }
 
-// The answer's number, whether a byte was given, the byte, the lines.
-fn result_bytes(answer: Answer, given: bool, byte: u8, lines: Lines) -> [u8; RESULT]
-    ensures { result ≡ (row_of answer).number ∷ flag given ∷ byte ∷ lines_bytes lines }
+// The answer's number, whether a byte was given, the byte or 0, the lines.
+fn result_bytes(answer: Answer, byte: Option<u8>, lines: Lines) -> [u8; RESULT]
+    ensures { result ≡ (row_of answer).number ∷ flag (is_some byte) ∷ unwrap_or byte 0 ∷ lines_bytes lines }
 {
     let l = lines_bytes(lines);
-    [answer.number(), flag(given), byte, l[0], l[1], l[2]]
+    [
+        answer.number(),
+        flag(byte.is_some()),
+        byte.unwrap_or(0),
+        l[0],
+        l[1],
+        l[2],
+    ]
 }
 
 // What a turn tells.
 pub(crate) fn turn_bytes(turn: Turn) -> [u8; RESULT]
     ensures { result ≡ result_bytes turn }
 {
-    let answer = turn.answer;
-    let lines = turn.lines;
-    result_bytes(answer, turn.given, turn.byte, lines)
+    result_bytes(turn.answer, turn.byte, turn.lines)
 }
 
 // A byte within a block: taken, READY and EXCEPTION down, DIRECTION up where it was handed out.
-pub(crate) fn byte_bytes(given: bool, byte: u8) -> [u8; RESULT]
-    ensures { result ≡ (row_of Taken).number ∷ flag given ∷ byte ∷ lines_bytes (record { ready = false; exception = false; direction = given }) }
+pub(crate) fn byte_bytes(byte: Option<u8>) -> [u8; RESULT]
+    ensures { result ≡ (row_of Taken).number ∷ flag (is_some byte) ∷ unwrap_or byte 0
+        ∷ lines_bytes (record { ready = false; exception = false; direction = is_some byte }) }
 {
-    [Answer::Taken.number(), flag(given), byte, 0, 0, flag(given)]
+    let given = flag(byte.is_some());
+    [
+        Answer::Taken.number(),
+        given,
+        byte.unwrap_or(0),
+        0,
+        0,
+        given,
+    ]
 }
 
 // 5, no byte, the lines down.

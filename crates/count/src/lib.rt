@@ -2,24 +2,15 @@
 #![tactic(auto)]
 
 ghost use Rattle.std.specs.Prelude.{◌≡◌};
-ghost use Rattle.rules.specs.Drive.{error_counted, underrun_counted};
 
-mod errors;
-mod underruns;
+mod counted;
 
-pub use errors::count_errors;
-use rules::Drive;
-pub use underruns::count_underruns;
+pub use counted::count_in;
+use rules::{Counter, Drive};
 
 // The record is taken whole, moved by value, and put back whole.
-pub fn raise_errors(drive: &mut Drive)
-    ensures { drive.new ≡ error_counted drive.old }
+pub fn raise<C: Counter>(drive: &mut Drive)
+    ensures { drive.new ≡ C.counted drive.old }
 {
-    *drive = (*drive).count_error();
-}
-
-pub fn raise_underruns(drive: &mut Drive)
-    ensures { drive.new ≡ underrun_counted drive.old }
-{
-    *drive = (*drive).count_underrun();
+    *drive = C::count(*drive);
 }

@@ -1,4 +1,5 @@
 mod Stretch
+mod Numbers
 mod Parts
 pub mod Back
 pub mod Form

@@ -1,7 +1,7 @@
 -- What the code's arrays and parts come to.
-use Prim.Native.Nat.{ℕ, ◌+◌, ◌-◌, ◌≤◌}
+use Prim.Native.Nat.{ℕ, zero, suc, ◌*◌, min, ◌+◌, ◌-◌, ◌≤◌}
 use mathlib.Core.Path.{◌≡◌, refl, sym, ap, ◌∙◌}
-use mathlib.Core.Bool.{Bool, true, false}
+use mathlib.Core.Bool.{Bool, true, false, ◌&&◌, and_assoc}
 use mathlib.Core.List.{List, [], ◌∷◌, ◌++◌, append_assoc}
 use native.Mathlib.Omega.{arith}
 use lib.ListN.{length, get_or, take, drop, length-append}
@@ -12,14 +12,15 @@ use Rattle.rules.specs.declared.unit.Port.{Port}
 use Rattle.rules.specs.declared.unit.Core.{Core}
 use Rattle.rules.specs.Phase.{report_size}
 use Rattle.rules.specs.Unit.{one_of, drive_at}
-use Rattle.rules.proofs.Places.{one_holds}
+use Rattle.rules.proofs.Places.{one_holds, last_one}
 use Rattle.basis.specs.Choice.{pick}
 use Rattle.basis.proofs.Placing.{each, each_is}
 use Rattle.layout.specs.Number.{two, four, eight}
 use Rattle.basis.specs.Placed.{placed}
 use Rattle.layout.specs.Written.{flag, unused, mode_byte, latched_bytes, drive_bytes, port_bytes, unit, unit_bytes}
 use Rattle.layout.specs.Written.{port_size, drive_size, record_size}
-use Rattle.layout.specs.Read.{stretch, drive_of, core_of, staging_of}
+use Rattle.std.specs.Prelude.{fold}
+use Rattle.layout.specs.Read.{stretch, is_flag, is_latched, drive_of, core_of, staging_of}
 use Rattle.layout.proofs.Stretch.{stretch_end}
 
 -- a part copied over an array of its size is that part
@@ -30,6 +31,15 @@ part_copied l at end n r e is = let k : end - at ≡ n = omega (arith, e) in rw 
 -- a drive by its number: it ends inside the record, and its stretch is read as it
 pub drive_inside : (i : ℕ) → one_of i 18 50 82 114 ≤ 114
 drive_inside = one_holds (λ n. n ≤ 114) (omega arith) (omega arith) (omega arith) (omega arith)
+
+-- the drives lie a drive's bytes apart, and a number above 3 means the last
+pub drives_apart : (i : ℕ) → 18 + 32 * min i 3 ≡ one_of i 18 50 82 114
+unfolding one_of pick
+drives_apart zero = refl
+drives_apart (suc zero) = refl
+drives_apart (suc (suc zero)) = refl
+drives_apart (suc (suc (suc n))) =
+    let i = suc (suc (suc n)) in omega (arith, last_one {A = ℕ} i 18 50 82 114 (λ e. omega (arith, e)) (λ e. omega (arith, e)) (λ e. omega (arith, e)))
 
 pub drive_found : (l : List ℕ) (i : ℕ) → drive_of (stretch (one_of i 18 50 82 114) drive_size l) ≡ drive_at (core_of l) i
 unfolding one_of pick core_of
@@ -47,6 +57,10 @@ drive_found l i = go (eqb i 0) (eqb i 1) (eqb i 2)
 -- six octets are their list
 pub six : (o : List ℕ) → length o ≡ 6 → get_or o 0 0 ∷ get_or o 1 0 ∷ get_or o 2 0 ∷ get_or o 3 0 ∷ get_or o 4 0 ∷ get_or o 5 0 ∷ [] ≡ o
 six o size = each_is 6 0 o (omega (arith, size)) ∙ take_all 6 o (omega (arith, size))
+
+-- the latched bits are bools where all of their eight bytes are, one after the other
+pub latched_folded : (l : List ℕ) → 30 ≤ length l → fold (λ so b. so && is_flag b) true (take 8 (drop 22 l)) ≡ is_latched l
+latched_folded l size = ap (fold (λ so b. so && is_flag b) true) (sym (each_is 8 22 l size)) ∙ simp and_assoc
 
 -- the bytes of a drive, made one by one from what each call gave
 pub drive_listed : (d : Drive) (h e u l : List ℕ) (a b m x : ℕ)

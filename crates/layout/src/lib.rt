@@ -1,7 +1,6 @@
 // The unit's record as bytes: written, recognised and read.
 #![tactic(auto)]
 
-mod number;
 mod read;
 mod write;
 

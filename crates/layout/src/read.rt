@@ -1,12 +1,11 @@
 // Bytes read as a record.
-ghost use Rattle.std.specs.Prelude.{◌≡◌, ◌+◌, ◌≤◌, length};
+ghost use Rattle.std.specs.Prelude.{◌≡◌, ◌+◌, ◌≤◌, ◌&&◌, true, length, fold};
 ghost use Rattle.rules.specs.Unit.{one_of, drive_at};
 ghost use Rattle.layout.specs.Number.{eight_at};
-ghost use Rattle.layout.specs.Written.{record_size, drive_size, port_size};
-ghost use Rattle.layout.specs.Read.{stretch, is_phase, is_latched, leaves_room, is_drive, is_port, is_record};
+ghost use Rattle.layout.specs.Written.{record_size};
+ghost use Rattle.layout.specs.Read.{stretch, is_flag, is_phase, is_latched, leaves_room, is_drive, is_port, is_record};
 ghost use Rattle.layout.specs.Read.{mode_of, phase_of, latched_of, drive_of, port_of, core_of};
 
-use crate::number::{of_eight, of_four, of_two};
 use crate::{DRIVE, DRIVE_0, DRIVE_1, DRIVE_2, DRIVE_3, PORT, RECORD, VERSION};
 use rules::{Core, Drive, Errors, Latched, Mode, Phase, Port, Underruns};
 
@@ -20,42 +19,52 @@ fn is_phase(b: u8, n: usize) -> bool
 fn mode_of(b: u8) -> Mode
     ensures { result ≡ mode_of b }
 {
-    if b == 0 {
-        return Mode::Idle;
+    match b {
+        0 => Mode::Idle,
+        1 => Mode::Writing,
+        _ => Mode::Reading,
     }
-    if b == 1 { Mode::Writing } else { Mode::Reading }
 }
 
 fn phase_of(b: u8, n: usize) -> Phase
     ensures { result ≡ phase_of b n }
 {
-    if b == 0 {
-        return Phase::Rest;
+    match b {
+        0 => Phase::Rest,
+        1 => Phase::Taking(n),
+        2 => Phase::Giving(n),
+        _ => Phase::Status(n),
     }
-    if b == 1 {
-        return Phase::Taking(n);
-    }
-    if b == 2 {
-        Phase::Giving(n)
-    } else {
-        Phase::Status(n)
-    }
+}
+
+// The bytes that begin at an offset, as many as the caller takes.
+fn part<const N: usize>(buffer: &[u8], at: usize) -> [u8; N]
+    requires { at + N ≤ length buffer.now }
+    ensures { result ≡ stretch at N buffer.now }
+{
+    let mut part = [0; N];
+    part.copy_from_slice(&buffer[at..at + N]);
+    part
+}
+
+// Each byte is looked at, whatever the ones before it are: that takes no jumps.
+fn are_flags(bytes: &[u8]) -> bool
+    ensures { result ≡ fold (λ so b. so && is_flag b) true bytes.now }
+{
+    bytes.iter().fold(true, |so, b| so & (*b <= 1))
 }
 
 fn is_latched(p: &[u8; DRIVE]) -> bool
     ensures { result ≡ is_latched p.now }
 {
-    (p[22] <= 1)
-        & ((p[23] <= 1)
-            & ((p[24] <= 1)
-                & ((p[25] <= 1) & ((p[26] <= 1) & ((p[27] <= 1) & ((p[28] <= 1) & (p[29] <= 1)))))))
+    are_flags(&p[22..30])
 }
 
 // Room that no field has is 0.
 fn leaves_room(p: &[u8; DRIVE]) -> bool
     ensures { result ≡ leaves_room p.now }
 {
-    (of_four(p[8], p[9], p[10], p[11]) == 0) & ((p[18] == 0) & (of_two(p[30], p[31]) == 0))
+    (u32::from_le_bytes(part(p, 8)) == 0) & ((p[18] == 0) & (u16::from_le_bytes(part(p, 30)) == 0))
 }
 
 fn is_drive(p: &[u8; DRIVE]) -> bool
@@ -68,10 +77,7 @@ fn is_drive(p: &[u8; DRIVE]) -> bool
 fn phase_number(p: &[u8; PORT]) -> usize
     ensures { result ≡ eight_at p.now 4 }
 {
-    of_eight(
-        of_four(p[4], p[5], p[6], p[7]),
-        of_four(p[8], p[9], p[10], p[11]),
-    )
+    usize::from_le_bytes(part(p, 4))
 }
 
 fn is_port(p: &[u8; PORT]) -> bool
@@ -98,16 +104,15 @@ fn latched_of(p: &[u8; DRIVE]) -> Latched
 fn drive_of(p: &[u8; DRIVE]) -> Drive
     ensures { result ≡ drive_of p.now }
 {
-    let head = of_eight(
-        of_four(p[0], p[1], p[2], p[3]),
-        of_four(p[4], p[5], p[6], p[7]),
-    );
+    let head = usize::from_le_bytes(part(p, 0));
+    let errors = u16::from_le_bytes(part(p, 12));
+    let underruns = u16::from_le_bytes(part(p, 14));
     let mode = mode_of(p[19]);
     let latched = latched_of(p);
     Drive {
         head,
-        errors: Errors(of_two(p[12], p[13])),
-        underruns: Underruns(of_two(p[14], p[15])),
+        errors: Errors(errors),
+        underruns: Underruns(underruns),
         loaded: p[16] == 1,
         protected: p[17] == 1,
         mode,
@@ -129,25 +134,6 @@ fn port_of(p: &[u8; PORT]) -> Port
     }
 }
 
-fn port_part(buffer: &[u8]) -> [u8; PORT]
-    requires { length buffer.now ≡ record_size }
-    ensures { result ≡ stretch 0 port_size buffer.now }
-{
-    let mut part = [0; PORT];
-    part.copy_from_slice(&buffer[0..PORT]);
-    part
-}
-
-fn drive_part(buffer: &[u8], at: usize) -> [u8; DRIVE]
-    requires { at + drive_size ≤ length buffer.now }
-    ensures { result ≡ stretch at drive_size buffer.now }
-{
-    let mut part = [0; DRIVE];
-    let end = at + DRIVE;
-    part.copy_from_slice(&buffer[at..end]);
-    part
-}
-
 // Whether a buffer is a record, possible or not.
 pub fn is_record(buffer: &[u8]) -> bool
     ensures { result ≡ is_record buffer.now }
@@ -155,11 +141,11 @@ pub fn is_record(buffer: &[u8]) -> bool
     if buffer.len() != RECORD {
         return false;
     }
-    let port = port_part(buffer);
-    let drive0 = drive_part(buffer, DRIVE_0);
-    let drive1 = drive_part(buffer, DRIVE_1);
-    let drive2 = drive_part(buffer, DRIVE_2);
-    let drive3 = drive_part(buffer, DRIVE_3);
+    let port = part(buffer, 0);
+    let drive0 = part(buffer, DRIVE_0);
+    let drive1 = part(buffer, DRIVE_1);
+    let drive2 = part(buffer, DRIVE_2);
+    let drive3 = part(buffer, DRIVE_3);
     is_port(&port)
         & (is_drive(&drive0) & (is_drive(&drive1) & (is_drive(&drive2) & is_drive(&drive3))))
 }
@@ -169,19 +155,14 @@ pub fn port_in(buffer: &[u8]) -> Port
     requires { length buffer.now ≡ record_size }
     ensures { result ≡ (core_of buffer.now).port }
 {
-    port_of(&port_part(buffer))
+    port_of(&part(buffer, 0))
 }
 
-// Where a drive begins.
+// Where a drive begins; a number above 3 means the last.
 fn drive_place(i: u8) -> usize
     ensures { result ≡ one_of i 18 50 82 114 }
 {
-    match i {
-        0 => DRIVE_0,
-        1 => DRIVE_1,
-        2 => DRIVE_2,
-        _ => DRIVE_3,
-    }
+    DRIVE_0 + DRIVE * usize::from(i.min(3))
 }
 
 // A drive of a record by its number.
@@ -189,7 +170,7 @@ pub fn drive_in(buffer: &[u8], i: u8) -> Drive
     requires { length buffer.now ≡ record_size }
     ensures { result ≡ drive_at (core_of buffer.now) i }
 {
-    drive_of(&drive_part(buffer, drive_place(i)))
+    drive_of(&part(buffer, drive_place(i)))
 }
 
 // All of a record but its staging block: the port and four drives.
@@ -198,10 +179,10 @@ pub fn core_of(buffer: &[u8]) -> Core
     ensures { result ≡ core_of buffer.now }
 {
     let port = port_in(buffer);
-    let drive0 = drive_of(&drive_part(buffer, DRIVE_0));
-    let drive1 = drive_of(&drive_part(buffer, DRIVE_1));
-    let drive2 = drive_of(&drive_part(buffer, DRIVE_2));
-    let drive3 = drive_of(&drive_part(buffer, DRIVE_3));
+    let drive0 = drive_of(&part(buffer, DRIVE_0));
+    let drive1 = drive_of(&part(buffer, DRIVE_1));
+    let drive2 = drive_of(&part(buffer, DRIVE_2));
+    let drive3 = drive_of(&part(buffer, DRIVE_3));
     Core {
         port,
         drive0,

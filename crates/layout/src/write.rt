@@ -6,7 +6,6 @@ ghost use Rattle.layout.specs.Written.{flag, mode_byte, latched_bytes, drive_byt
 ghost use Rattle.layout.specs.Written.{unit, Sized, phase_at, port_size, drive_size, record_size};
 ghost use Rattle.layout.specs.Read.{staging_of};
 
-use crate::number::{eight, two};
 use crate::{
     DRIVE, DRIVE_0, DRIVE_1, DRIVE_2, DRIVE_3, PHASE, PHASE_BYTES, PORT, STAGING, VERSION,
 };
@@ -21,7 +20,7 @@ const UNUSED: u8 = 0;
 pub fn flag(b: bool) -> u8
     ensures { result ≡ flag b }
 {
-    if b { 1 } else { 0 }
+    u8::from(b)
 }
 
 fn mode_byte(mode: Mode) -> u8
@@ -52,9 +51,9 @@ fn latched_bytes(l: Latched) -> [u8; 8]
 fn drive_bytes(drive: Drive) -> [u8; DRIVE]
     ensures { result ≡ drive_bytes drive }
 {
-    let h = eight(drive.head);
-    let e = two(drive.errors.0);
-    let u = two(drive.underruns.0);
+    let h = drive.head.to_le_bytes();
+    let e = drive.errors.0.to_le_bytes();
+    let u = drive.underruns.0.to_le_bytes();
     let mode = drive.mode;
     let l = latched_bytes(drive.latched);
     [
@@ -96,7 +95,7 @@ fn drive_bytes(drive: Drive) -> [u8; DRIVE]
 fn phase_bytes(phase: Phase) -> [u8; PHASE_BYTES]
     ensures { result ≡ phase_bytes phase }
 {
-    let n = eight(phase.how_far());
+    let n = phase.how_far().to_le_bytes();
     [
         phase.which(),
         n[0],

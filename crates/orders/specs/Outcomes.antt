@@ -1,5 +1,5 @@
 -- Each public contract leaves one outcome: any two that it allows are equal.
-use Rattle.std.specs.Prelude.{ℕ, ◌≡◌, Bool}
+use Rattle.std.specs.Prelude.{ℕ, ◌≡◌, Bool, Result, Option}
 use Rattle.rules.specs.declared.drive.Drive.{Drive}
 use Rattle.rules.specs.declared.order.Fault.{Fault}
 use Rattle.rules.specs.declared.order.Needs.{Needs}
@@ -8,9 +8,9 @@ use Rattle.rules.specs.Late.{spare_of, allowed_at, goes_on}
 use Rattle.rules.specs.Order.{order_of, needs_of, fault_by}
 
 pub record OneOutcome : Type 0 where
-  pub order_of : (c : ℕ) (r r' : Order) → r ≡ order_of c → r' ≡ order_of c → r ≡ r'
-  pub needs_of : (o : Order) (r r' : Needs) → r ≡ needs_of o → r' ≡ needs_of o → r ≡ r'
-  pub fault_of : (online : Bool) (d : Drive) (l : ℕ) (n : Needs) (r r' : Fault)
+  pub order_of : (c : ℕ) (r r' : Option Order) → r ≡ order_of c → r' ≡ order_of c → r ≡ r'
+  pub needs_of : (o : Option Order) (r r' : Needs) → r ≡ needs_of o → r' ≡ needs_of o → r ≡ r'
+  pub fault_of : (online : Bool) (d : Drive) (l : ℕ) (n : Needs) (r r' : Result (Unit {0}) Fault)
       → r ≡ fault_by online d l n → r' ≡ fault_by online d l n → r ≡ r'
   pub spare_of : (late r r' : ℕ) → r ≡ spare_of late → r' ≡ spare_of late → r ≡ r'
   pub allowed_at : (h l r r' : ℕ) → r ≡ allowed_at h l → r' ≡ allowed_at h l → r ≡ r'

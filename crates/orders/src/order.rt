@@ -1,28 +1,28 @@
 // Commands: the codes, what each order needs, and the tests, of which the first that fits decides.
 ghost use Rattle.std.specs.Prelude.{◌≡◌};
-ghost use Rattle.rules.specs.Order.{order_of, needs, needs_of, in_sequence, illegal, has_room, first_fault, fault_by};
+ghost use Rattle.rules.specs.Order.{order_of, needs, needs_of, in_sequence, illegal, has_room, fault_by};
 
 use rules::{Drive, Fault, Mode, Needs, Order, WRITE_ROOM};
 use tape::{MARK_SIZE, has_room};
 
 // The order of a command octet, for each of the 256.
-pub fn order_of(code: u8) -> Order
+pub fn order_of(code: u8) -> Option<Order>
     ensures { result ≡ order_of code }
 {
     match code {
-        0x01 => Order::Select(0),
-        0x02 => Order::Select(1),
-        0x04 => Order::Select(2),
-        0x08 => Order::Select(3),
-        0x21 => Order::Bot,
-        0x22 => Order::Erase,
-        0x24 => Order::Initialize,
-        0x40 => Order::Write,
-        0x60 => Order::WriteMark,
-        0x80 => Order::Read,
-        0xA0 => Order::ReadMark,
-        0xC0 => Order::ReadStatus,
-        _ => Order::NoOrder,
+        0x01 => Some(Order::Select(0)),
+        0x02 => Some(Order::Select(1)),
+        0x04 => Some(Order::Select(2)),
+        0x08 => Some(Order::Select(3)),
+        0x21 => Some(Order::Bot),
+        0x22 => Some(Order::Erase),
+        0x24 => Some(Order::Initialize),
+        0x40 => Some(Order::Write),
+        0x60 => Some(Order::WriteMark),
+        0x80 => Some(Order::Read),
+        0xA0 => Some(Order::ReadMark),
+        0xC0 => Some(Order::ReadStatus),
+        _ => None,
     }
 }
 
@@ -52,11 +52,13 @@ fn row(
 }
 
 // The columns: a known code; READ STATUS; Writing takes it; Reading takes it; ONLINE; a cartridge; an open plug; room.
-pub fn needs_of(order: Order) -> Needs
+pub fn needs_of(order: Option<Order>) -> Needs
     ensures { result ≡ needs_of order }
 {
+    let Some(order) = order else {
+        return row(false, false, false, false, false, false, false, 0);
+    };
     match order {
-        Order::NoOrder => row(false, false, false, false, false, false, false, 0),
         Order::Select(_) => row(true, false, false, false, false, false, false, 0),
         Order::Bot => row(true, false, false, false, false, true, false, 0),
         Order::Erase => row(true, false, false, false, false, true, true, 0),
@@ -84,8 +86,7 @@ fn in_sequence(mode: Mode, needs: Needs) -> bool
 fn illegal(online: bool, drive: Drive, needs: Needs) -> bool
     ensures { result ≡ illegal online drive needs }
 {
-    let mode = drive.mode;
-    let sequence = in_sequence(mode, needs);
+    let sequence = in_sequence(drive.mode, needs);
     (drive.exception & !needs.status) | (!needs.known | (!sequence | (needs.online & !online)))
 }
 
@@ -93,33 +94,24 @@ fn illegal(online: bool, drive: Drive, needs: Needs) -> bool
 fn room_for(room: usize, head: usize, length: usize) -> bool
     ensures { result ≡ has_room room head length }
 {
-    let free = room == 0;
-    free | has_room(head, room, length)
+    (room == 0) | has_room(head, room, length)
 }
 
-// The first that fits decides.
-fn first_fault(ill: bool, empty: bool, plugged: bool, room: bool) -> Fault
-    ensures { result ≡ first_fault ill empty plugged room }
-{
-    if ill {
-        return Fault::Illegal;
-    }
-    if empty {
-        return Fault::Empty;
-    }
-    if plugged {
-        return Fault::Plugged;
-    }
-    if room { Fault::Fine } else { Fault::Full }
-}
-
-// The seven tests against the level of ONLINE, the record and the tape's length.
-pub fn fault_of(online: bool, drive: Drive, length: usize, needs: Needs) -> Fault
+// The seven tests against the level of ONLINE, the record and the tape's length: the first that fits decides.
+pub fn fault_of(online: bool, drive: Drive, length: usize, needs: Needs) -> Result<(), Fault>
     ensures { result ≡ fault_by online drive length needs }
 {
-    let ill = illegal(online, drive, needs);
-    let empty = needs.cartridge & !drive.loaded;
-    let plugged = needs.plug & drive.protected;
-    let room = room_for(needs.room, drive.head, length);
-    first_fault(ill, empty, plugged, room)
+    if illegal(online, drive, needs) {
+        return Err(Fault::Illegal);
+    }
+    if needs.cartridge & !drive.loaded {
+        return Err(Fault::Empty);
+    }
+    if needs.plug & drive.protected {
+        return Err(Fault::Plugged);
+    }
+    if !room_for(needs.room, drive.head, length) {
+        return Err(Fault::Full);
+    }
+    Ok(())
 }

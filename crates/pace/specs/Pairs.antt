@@ -1,16 +1,24 @@
 -- Pairs of bytes as events, and what a fresh unit makes of them.
-use Rattle.std.specs.Prelude.{ℕ, ◌≡◌, List, [], ◌∷◌, take}
+use Rattle.std.specs.Prelude.{ℕ, ◌≡◌, unwrap_or, List, [], ◌∷◌, get_or, take}
 use Rattle.trace.specs.Cut.{kind_size}
 use Rattle.rules.specs.declared.unit.Core.{Core}
 use Rattle.rules.specs.Unit.{Lent, lent}
 use Rattle.rules.specs.Run.{World, run, fresh_world}
 use Rattle.unit.specs.declared.many.Handed.{Handed}
 
--- Each pair is an event of as many bytes as its kind has; an unknown kind is none.
+-- The bytes of a pair.
+abbrev pub pair_size : ℕ
+pair_size = 2
+
+-- A pair as an event: as many of its bytes as its kind has; of an unknown kind none.
+abbrev pub event_of : List ℕ → List ℕ
+event_of pair = take (unwrap_or (kind_size (get_or pair 0 0)) 0) pair
+
+-- Each pair is an event.
 abbrev pub pairs_of : List ℕ → List (List ℕ)
 pairs_of [] = []
 pairs_of (kind ∷ []) = []
-pairs_of (kind ∷ (body ∷ l)) = take (kind_size kind) (kind ∷ body ∷ []) ∷ pairs_of l
+pairs_of (kind ∷ (body ∷ l)) = event_of (kind ∷ body ∷ []) ∷ pairs_of l
 
 -- The four tapes and the selected drive after a fresh unit ran them all.
 abbrev pub after : List ℕ → List ℕ → List ℕ → List ℕ → List ℕ → World

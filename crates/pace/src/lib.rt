@@ -3,41 +3,44 @@
 
 ghost use Rattle.std.specs.Prelude.{◌≡◌, length};
 ghost use Rattle.tape.specs.Record.{body_size};
-ghost use Rattle.rules.specs.Unit.{lent, fresh_core};
+ghost use Rattle.rules.specs.Unit.{fresh_core};
+ghost use Rattle.unit.specs.Tapes.{lent_on, Same};
 ghost use Rattle.rules.specs.Ran.{RunsTo};
 ghost use Rattle.unit.specs.Handover.{GivesOver, TakesOver};
-ghost use Rattle.pace.specs.Pairs.{pairs_of, Paced, PacedThen};
+ghost use Rattle.pace.specs.Pairs.{pair_size, event_of, pairs_of, Paced, PacedThen};
 
 use rules::{Core, Unit};
 use tape::BODY;
 use trace::kind_size;
-use unit::{give_bytes, step_lent, take_bytes};
+use unit::{Tapes, give_bytes, step_lent, take_bytes};
 
 // What a fresh staging block holds.
 const FRESH: u8 = 0;
 
+// The bytes of a pair.
+const PAIR: usize = 2;
+
+// A pair as an event: as many of its bytes as its kind has; of an unknown kind none.
+fn event_of(pair: &[u8]) -> &[u8]
+    requires { length pair.now ≡ pair_size }
+    ensures { result.now ≡ event_of pair.now }
+{
+    let size = kind_size(pair[0]).unwrap_or(0);
+    &pair[..size]
+}
+
 // A fresh core over pairs of bytes, each an event of its kind's size.
-fn run_core(
-    staging: &mut [u8],
-    tape0: &mut [u8],
-    tape1: &mut [u8],
-    tape2: &mut [u8],
-    tape3: &mut [u8],
-    pairs: &[u8],
-) -> Core
+fn run_core(staging: &mut [u8], tapes: &mut Tapes<'_>, pairs: &[u8]) -> Core
     requires { length staging.old ≡ body_size }
-    ensures { RunsTo fresh_core
-        (lent staging.old tape0.old tape1.old tape2.old tape3.old)
+    ensures runs { RunsTo fresh_core
+        (lent_on staging.old tapes.old)
         (pairs_of pairs.now) result
-        (lent staging.new tape0.new tape1.new tape2.new tape3.new) }
+        (lent_on staging.new tapes.new) }
+    ensures same { Same tapes.old tapes.new }
 {
     let mut after = Core::fresh();
-    let mut i = 0;
-    while i + 1 < pairs.len() {
-        let end = i + kind_size(pairs[i]);
-        let turn = step_lent(after, staging, tape0, tape1, tape2, tape3, &pairs[i..end]);
-        after = turn.core;
-        i += 2;
+    for pair in pairs.chunks_exact(PAIR) {
+        after = step_lent(after, staging, tapes, event_of(pair)).core;
     }
     after
 }
@@ -54,8 +57,14 @@ pub extern "C" fn pace_core(
     ensures { Paced tape0.old tape1.old tape2.old tape3.old pairs.now result
         tape0.new tape1.new tape2.new tape3.new }
 {
+    let mut tapes = Tapes {
+        tape0,
+        tape1,
+        tape2,
+        tape3,
+    };
     let mut staging = [FRESH; BODY];
-    let after = run_core(&mut staging, tape0, tape1, tape2, tape3, pairs);
+    let after = run_core(&mut staging, &mut tapes, pairs);
     after.port.selected
 }
 
@@ -73,9 +82,15 @@ pub extern "C" fn pace_give(
         tape0.old tape1.old tape2.old tape3.old pairs.now result
         tape0.new tape1.new tape2.new tape3.new }
 {
+    let mut tapes = Tapes {
+        tape0,
+        tape1,
+        tape2,
+        tape3,
+    };
     let mut staging = [FRESH; BODY];
-    let after = run_core(&mut staging, tape0, tape1, tape2, tape3, pairs);
-    let handed = give_bytes(after, &mut staging, tape0, tape1, tape2, tape3, bytes);
+    let after = run_core(&mut staging, &mut tapes, pairs);
+    let handed = give_bytes(after, &mut staging, &mut tapes, bytes);
     handed.last.core.port.selected
 }
 
@@ -93,33 +108,29 @@ pub extern "C" fn pace_take(
         tape0.old tape1.old tape2.old tape3.old pairs.now result
         tape0.new tape1.new tape2.new tape3.new }
 {
+    let mut tapes = Tapes {
+        tape0,
+        tape1,
+        tape2,
+        tape3,
+    };
     let mut staging = [FRESH; BODY];
-    let after = run_core(&mut staging, tape0, tape1, tape2, tape3, pairs);
-    let handed = take_bytes(after, &mut staging, tape0, tape1, tape2, tape3, bytes);
+    let after = run_core(&mut staging, &mut tapes, pairs);
+    let handed = take_bytes(after, &mut staging, &mut tapes, bytes);
     handed.last.core.port.selected
 }
 
 // The loop on a unit that holds its staging block: the loop is apart, so that the record is copied whole.
-fn run_unit(
-    whole: Unit,
-    tape0: &mut [u8],
-    tape1: &mut [u8],
-    tape2: &mut [u8],
-    tape3: &mut [u8],
-    pairs: &[u8],
-) -> Unit
-    ensures { RunsTo whole.core
-        (lent whole.staging tape0.old tape1.old tape2.old tape3.old)
+fn run_unit(whole: Unit, tapes: &mut Tapes<'_>, pairs: &[u8]) -> Unit
+    ensures runs { RunsTo whole.core
+        (lent_on whole.staging tapes.old)
         (pairs_of pairs.now) result.core
-        (lent result.staging tape0.new tape1.new tape2.new tape3.new) }
+        (lent_on result.staging tapes.new) }
+    ensures same { Same tapes.old tapes.new }
 {
     let mut after = whole;
-    let mut i = 0;
-    while i + 1 < pairs.len() {
-        let end = i + kind_size(pairs[i]);
-        let outcome = unit::step(after, tape0, tape1, tape2, tape3, &pairs[i..end]);
-        after = outcome.unit;
-        i += 2;
+    for pair in pairs.chunks_exact(PAIR) {
+        after = unit::step(after, tapes, event_of(pair)).unit;
     }
     after
 }
@@ -136,6 +147,12 @@ pub extern "C" fn pace_unit(
     ensures { Paced tape0.old tape1.old tape2.old tape3.old pairs.now result
         tape0.new tape1.new tape2.new tape3.new }
 {
-    let after = run_unit(Unit::fresh(), tape0, tape1, tape2, tape3, pairs);
+    let mut tapes = Tapes {
+        tape0,
+        tape1,
+        tape2,
+        tape3,
+    };
+    let after = run_unit(Unit::fresh(), &mut tapes, pairs);
     after.core.port.selected
 }

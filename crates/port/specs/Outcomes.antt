@@ -1,6 +1,7 @@
 -- Each public contract leaves one outcome: any two that it allows are equal.
-use Rattle.std.specs.Prelude.{ℕ, ◌≡◌, Bool, true, List}
-use Rattle.tape.specs.declared.found.Found.{Found}
+use Rattle.std.specs.Prelude.{ℕ, ◌≡◌, Bool, true, List, Result}
+use Rattle.tape.specs.declared.found.Kind.{Kind}
+use Rattle.tape.specs.declared.found.Why.{Why}
 use Rattle.rules.specs.declared.drive.Drive.{Drive}
 use Rattle.rules.specs.declared.event.Act.{Act}
 use Rattle.rules.specs.declared.order.Checked.{Checked}
@@ -20,7 +21,7 @@ abbrev pub OneAct : Acted → Type 0
 OneAct x = (r r' : Moved) (t' t'' : List ℕ) → acted r t' ≡ x → acted r' t'' ≡ x → (r ≡ r') × (t' ≡ t'')
 
 pub record OneOutcome : Type 0 where
-  pub is_block : (f : Found) (r r' : Bool) → r ≡ is_block f → r' ≡ is_block f → r ≡ r'
+  pub is_block : (f : Result Kind Why) (r r' : Bool) → r ≡ is_block f → r' ≡ is_block f → r ≡ r'
   pub check : (d : Drive) (t : List ℕ) (r r' : Checked) → r ≡ checked t d → r' ≡ checked t d → r ≡ r'
   pub stage : (ph : Phase) (a : Act) (g g' g'' : List ℕ) → g' ≡ staged ph a g → g'' ≡ staged ph a g → g' ≡ g''
   pub command : (p : Port) (d : Drive) (t : List ℕ) (c : ℕ) → OneAct (commanded (seat p d t) (order_of c) (fault_of (seat p d t) (order_of c)))

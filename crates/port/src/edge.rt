@@ -3,16 +3,12 @@ ghost use Rattle.std.specs.Prelude.{◌≡◌};
 ghost use Rattle.rules.specs.Edge.{is_block, halted, spoilt, checked, standing};
 
 use rules::{Bit, Checked, Drive};
-use tape::{Found, MARK_SIZE, Passed, Why, found_at};
+use tape::{Kind, MARK_SIZE, Stopped, Why, found_at};
 
-pub fn is_block(found: Found) -> bool
+pub fn is_block(found: Result<Kind, Why>) -> bool
     ensures { result ≡ is_block found }
 {
-    match found {
-        Found::Block => true,
-        Found::Mark => false,
-        Found::Stop(_) => false,
-    }
+    matches!(found, Ok(Kind::Block))
 }
 
 // No record to go on with: the bits tell why, and the drive is Idle. Only a kind that nobody knows latches BNL beside UDE.
@@ -27,17 +23,12 @@ pub(crate) fn halt(drive: Drive, why: Why) -> Drive
 }
 
 // In the middle of a block all but a whole block is a bad record; only a kind that nobody knows is told apart.
-pub(crate) fn spoilt(found: Found) -> Why
+pub(crate) fn spoilt(found: Result<Kind, Why>) -> Why
     ensures { result ≡ spoilt found }
 {
     match found {
-        Found::Block => Why::Bad,
-        Found::Mark => Why::Bad,
-        Found::Stop(why) => match why {
-            Why::End => Why::Bad,
-            Why::Unknown => Why::Unknown,
-            Why::Bad => Why::Bad,
-        },
+        Err(Why::Unknown) => Why::Unknown,
+        _ => Why::Bad,
     }
 }
 
@@ -45,36 +36,28 @@ pub(crate) fn spoilt(found: Found) -> Why
 pub fn check(drive: Drive, tape: &[u8]) -> Checked
     ensures { result ≡ checked tape.now drive }
 {
-    let head = drive.head;
-    let found = found_at(tape, head);
-    match found {
-        Found::Block => Checked {
+    match found_at(tape, drive.head) {
+        Ok(Kind::Block) => Checked {
             raised: false,
             drive,
         },
-        Found::Mark => {
-            let past = drive.pass_to(head + MARK_SIZE).stop(Bit::Fil);
-            Checked {
-                raised: true,
-                drive: past,
-            }
-        }
-        Found::Stop(why) => {
-            let halted = halt(drive, why);
-            Checked {
-                raised: true,
-                drive: halted,
-            }
-        }
+        Ok(Kind::Mark) => Checked {
+            raised: true,
+            drive: drive.pass_to(drive.head + MARK_SIZE).stop(Bit::Fil),
+        },
+        Err(why) => Checked {
+            raised: true,
+            drive: halt(drive, why),
+        },
     }
 }
 
 // READ FILE MARK: past the next mark FIL; at end of data or at a bad record as above, head there.
-pub(crate) fn stand_where(drive: Drive, passed: Passed) -> Drive
+pub(crate) fn stand_where(drive: Drive, passed: Result<usize, Stopped>) -> Drive
     ensures { result ≡ standing passed drive }
 {
     match passed {
-        Passed::Past(at) => drive.pass_to(at).stop(Bit::Fil),
-        Passed::Stopped(at, why) => halt(drive.pass_to(at), why),
+        Ok(at) => drive.pass_to(at).stop(Bit::Fil),
+        Err(Stopped { at, why }) => halt(drive.pass_to(at), why),
     }
 }

@@ -2,7 +2,7 @@
 ghost use Rattle.std.specs.Prelude.{◌≡◌, true, List, ℕ, ◌+◌, leb, length};
 ghost use Rattle.basis.specs.Choice.{pick};
 ghost use Rattle.rules.specs.declared.order.Order.TheVariants.{Erase, Write, WriteMark, Read, ReadMark, ReadStatus};
-ghost use Rattle.rules.specs.declared.order.Fault.TheVariants.{Fine, Full};
+ghost use Rattle.rules.specs.declared.order.Fault.TheVariants.{Full};
 ghost use Rattle.rules.specs.Order.{order_of, needs_of, mark_room, has_room};
 ghost use Rattle.rules.specs.Effect.{seat, acted, ordered, fault_of, commanded};
 
@@ -11,11 +11,11 @@ use crate::moved::{leaves, rests};
 use orders::{allowed_at, fault_of, needs_of, order_of};
 use report::octets;
 use rules::{Bit, Drive, Fault, Mode, Moved, Order, Port};
-use tape::{Made, pass_to_mark, record_mark};
+use tape::{pass_to_mark, record_mark};
 
 // Every byte of the tape 0, head 0.
 fn erase(port: Port, drive: Drive, tape: &mut [u8]) -> Moved
-    ensures { acted result tape.new ≡ ordered (seat port drive tape.old) Erase }
+    ensures { acted result tape.new ≡ ordered (seat port drive tape.old) (Some Erase) }
 {
     tape::erase(tape);
     rests(false, port, drive.rewind())
@@ -23,7 +23,7 @@ fn erase(port: Port, drive: Drive, tape: &mut [u8]) -> Moved
 
 // Writing, and past early warning two late blocks.
 fn write(port: Port, drive: Drive, tape: &[u8]) -> Moved
-    ensures { acted result tape.now ≡ ordered (seat port drive tape.now) Write }
+    ensures { acted result tape.now ≡ ordered (seat port drive tape.now) (Some Write) }
 {
     let late = allowed_at(drive.head, tape.len());
     rests(false, port, drive.in_mode(Mode::Writing).allow(late))
@@ -32,27 +32,25 @@ fn write(port: Port, drive: Drive, tape: &[u8]) -> Moved
 // A mark recorded, mode Idle; without room for it EOM, as test 7 has it.
 fn write_mark(port: Port, drive: Drive, tape: &mut [u8]) -> Moved
     ensures { acted result tape.new
-        ≡ commanded (seat port drive tape.old) WriteMark (pick (leb (drive.head + mark_room) (length tape.old)) Fine Full) }
+        ≡ commanded (seat port drive tape.old) (Some WriteMark) (pick (leb (drive.head + mark_room) (length tape.old)) (Ok tt) (Err Full)) }
 {
-    let made = record_mark(tape, drive.head);
-    match made {
-        Made::Next(next) => rests(false, port, drive.made(next).in_mode(Mode::Idle)),
-        Made::NoRoom => rests(true, port, drive.stop(Bit::Eom)),
+    match record_mark(tape, drive.head) {
+        Some(next) => rests(false, port, drive.made(next).in_mode(Mode::Idle)),
+        None => rests(true, port, drive.stop(Bit::Eom)),
     }
 }
 
 // Reading, and the edge check.
 fn read(port: Port, drive: Drive, tape: &[u8]) -> Moved
-    ensures { acted result tape.now ≡ ordered (seat port drive tape.now) Read }
+    ensures { acted result tape.now ≡ ordered (seat port drive tape.now) (Some Read) }
 {
     let edge = check(drive.in_mode(Mode::Reading), tape);
-    let after = edge.drive;
-    rests(edge.raised, port, after)
+    rests(edge.raised, port, edge.drive)
 }
 
 // Blocks passed, to just past the next mark, or to the end of data, or to a bad record.
 fn read_mark(port: Port, drive: Drive, tape: &[u8]) -> Moved
-    ensures { acted result tape.now ≡ ordered (seat port drive tape.now) ReadMark }
+    ensures { acted result tape.now ≡ ordered (seat port drive tape.now) (Some ReadMark) }
 {
     let passed = pass_to_mark(tape, drive.head);
     rests(true, port, stand_where(drive, passed))
@@ -60,18 +58,20 @@ fn read_mark(port: Port, drive: Drive, tape: &[u8]) -> Moved
 
 // The six octets made, then the latched bits, both counters and EXCEPTION cleared.
 fn read_status(port: Port, drive: Drive) -> Moved
-    ensures { (t : List ℕ) → acted result t ≡ ordered (seat port drive t) ReadStatus }
+    ensures { (t : List ℕ) → acted result t ≡ ordered (seat port drive t) (Some ReadStatus) }
 {
     leaves(false, port.show(octets(drive)), drive.clear_status())
 }
 
 // An order that passed the tests.
-fn carry_out(port: Port, drive: Drive, tape: &mut [u8], order: Order) -> Moved
+fn carry_out(port: Port, drive: Drive, tape: &mut [u8], order: Option<Order>) -> Moved
     requires { has_room (needs_of order).room drive.head (length tape.old) ≡ true }
     ensures { acted result tape.new ≡ ordered (seat port drive tape.old) order }
 {
+    let Some(order) = order else {
+        return rests(false, port, drive);
+    };
     match order {
-        Order::NoOrder => rests(false, port, drive),
         Order::Select(n) => leaves(false, port.at_drive(n), drive.select()),
         Order::Bot => rests(false, port, drive.rewind()),
         Order::Erase => erase(port, drive, tape),
@@ -90,12 +90,11 @@ pub fn command(port: Port, drive: Drive, tape: &mut [u8], code: u8) -> Moved
         ≡ commanded (seat port drive tape.old) (order_of code) (fault_of (seat port drive tape.old) (order_of code)) }
 {
     let order = order_of(code);
-    let fault = fault_of(port.online, drive, tape.len(), needs_of(order));
-    match fault {
-        Fault::Fine => carry_out(port, drive, tape, order),
-        Fault::Illegal => rests(true, port, drive.latch(Bit::Ill)),
-        Fault::Empty => rests(true, port, drive.latch(Bit::Cni)),
-        Fault::Plugged => rests(true, port, drive.raise()),
-        Fault::Full => rests(true, port, drive.stop(Bit::Eom)),
+    match fault_of(port.online, drive, tape.len(), needs_of(order)) {
+        Ok(()) => carry_out(port, drive, tape, order),
+        Err(Fault::Illegal) => rests(true, port, drive.latch(Bit::Ill)),
+        Err(Fault::Empty) => rests(true, port, drive.latch(Bit::Cni)),
+        Err(Fault::Plugged) => rests(true, port, drive.raise()),
+        Err(Fault::Full) => rests(true, port, drive.stop(Bit::Eom)),
     }
 }

@@ -9,7 +9,7 @@ ghost use Rattle.rules.specs.Step.{staged};
 use crate::moved::leaves;
 use orders::{goes_on, spare_of};
 use rules::{Act, Bit, Drive, LAST_PLACE, Moved, Phase, Port};
-use tape::{Made, record_block};
+use tape::record_block;
 
 // A byte staged at place n, counted from 0; the last place is 511.
 fn put(staging: &mut [u8], n: usize, byte: u8)
@@ -28,12 +28,8 @@ pub fn stage(staging: &mut [u8], phase: Phase, a: Act)
     requires { length staging.old ≡ body_size }
     ensures { staging.new ≡ staged phase a staging.old }
 {
-    match a {
-        Act::Command(_) => {}
-        Act::Give(byte) => put(staging, phase.given_before(), byte),
-        Act::Take => {}
-        Act::Online => {}
-        Act::Offline => {}
+    if let Act::Give(byte) = a {
+        put(staging, phase.given_before(), byte);
     }
 }
 
@@ -53,11 +49,9 @@ fn store(port: Port, staging: &[u8], drive: Drive, tape: &mut [u8]) -> Moved
     requires { length staging.now ≡ body_size }
     ensures { acted result tape.new ≡ stored staging.now port drive tape.old }
 {
-    let late = drive.late;
-    let made = record_block(tape, drive.head, staging, spare_of(late));
-    match made {
-        Made::Next(next) => after_block(port, drive.made(next).one_less(), tape, late),
-        Made::NoRoom => leaves(true, port, drive.stop(Bit::Eom)),
+    match record_block(tape, drive.head, staging, spare_of(drive.late)) {
+        Some(next) => after_block(port, drive.made(next).one_less(), tape, drive.late),
+        None => leaves(true, port, drive.stop(Bit::Eom)),
     }
 }
 
@@ -67,8 +61,7 @@ pub fn give(port: Port, staging: &[u8], drive: Drive, tape: &mut [u8]) -> Moved
     ensures { acted result tape.new
         ≡ byte_given staging.now (seat port drive tape.old) (given_before port.phase) }
 {
-    let phase = port.phase;
-    let n = phase.given_before();
+    let n = port.phase.given_before();
     if n < LAST_PLACE {
         return leaves(false, port.at_phase(Phase::Taking(n + 1)), drive);
     }

@@ -1,5 +1,5 @@
 // What an act hands back.
-ghost use Rattle.std.specs.Prelude.{◌≡◌, true, false};
+ghost use Rattle.std.specs.Prelude.{◌≡◌, None, Some};
 ghost use Rattle.rules.specs.declared.phase.Phase.TheVariants.{Rest};
 ghost use Rattle.rules.specs.Unit.{at_phase};
 
@@ -7,12 +7,11 @@ use rules::{Drive, Moved, Phase, Port};
 
 // Without a byte.
 pub(crate) fn leaves(raised: bool, port: Port, drive: Drive) -> Moved
-    ensures { result ≡ record { raised = raised; given = false; byte = 0; port = port; drive = drive } }
+    ensures { result ≡ record { raised = raised; byte = None; port = port; drive = drive } }
 {
     Moved {
         raised,
-        given: false,
-        byte: 0,
+        byte: None,
         port,
         drive,
     }
@@ -20,19 +19,18 @@ pub(crate) fn leaves(raised: bool, port: Port, drive: Drive) -> Moved
 
 // Without a byte, at Rest.
 pub(crate) fn rests(raised: bool, port: Port, drive: Drive) -> Moved
-    ensures { result ≡ record { raised = raised; given = false; byte = 0; port = at_phase Rest port; drive = drive } }
+    ensures { result ≡ record { raised = raised; byte = None; port = at_phase Rest port; drive = drive } }
 {
     leaves(raised, port.at_phase(Phase::Rest), drive)
 }
 
 // With a byte.
 pub(crate) fn hands(raised: bool, byte: u8, port: Port, drive: Drive) -> Moved
-    ensures { result ≡ record { raised = raised; given = true; byte = byte; port = port; drive = drive } }
+    ensures { result ≡ record { raised = raised; byte = Some byte; port = port; drive = drive } }
 {
     Moved {
         raised,
-        given: true,
-        byte,
+        byte: Some(byte),
         port,
         drive,
     }

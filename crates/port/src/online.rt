@@ -1,5 +1,5 @@
 // ONLINE raised and dropped.
-ghost use Rattle.std.specs.Prelude.{◌≡◌, true, false, List, ℕ};
+ghost use Rattle.std.specs.Prelude.{◌≡◌, true, false, List, ℕ, None};
 ghost use Rattle.rules.specs.declared.drive.Mode.TheVariants.{Writing};
 ghost use Rattle.rules.specs.Unit.{at_level};
 ghost use Rattle.rules.specs.Effect.{seat, acted};
@@ -7,7 +7,7 @@ ghost use Rattle.rules.specs.Online.{levelled, leaving, dropped};
 
 use crate::moved::leaves;
 use rules::{Bit, Drive, Mode, Moved, Port};
-use tape::{Made, record_mark};
+use tape::record_mark;
 
 // Only the level changes.
 pub fn raise_online(port: Port, drive: Drive) -> Moved
@@ -18,7 +18,7 @@ pub fn raise_online(port: Port, drive: Drive) -> Moved
 
 // The level falls in every case.
 fn falls(raised: bool, port: Port, drive: Drive) -> Moved
-    ensures { result ≡ record { raised = raised; given = false; byte = 0; port = at_level false port; drive = drive } }
+    ensures { result ≡ record { raised = raised; byte = None; port = at_level false port; drive = drive } }
 {
     leaves(raised, port.at_level(false), drive)
 }
@@ -27,10 +27,9 @@ fn falls(raised: bool, port: Port, drive: Drive) -> Moved
 fn leave_writing(port: Port, drive: Drive, tape: &mut [u8]) -> Moved
     ensures { acted result tape.new ≡ leaving (seat port drive tape.old) Writing }
 {
-    let made = record_mark(tape, drive.head);
-    match made {
-        Made::Next(_) => falls(false, port, drive.in_mode(Mode::Idle).rewind()),
-        Made::NoRoom => falls(true, port, drive.stop(Bit::Eom)),
+    match record_mark(tape, drive.head) {
+        Some(_) => falls(false, port, drive.in_mode(Mode::Idle).rewind()),
+        None => falls(true, port, drive.stop(Bit::Eom)),
     }
 }
 
@@ -38,8 +37,7 @@ fn leave_writing(port: Port, drive: Drive, tape: &mut [u8]) -> Moved
 fn leave(port: Port, drive: Drive, tape: &mut [u8]) -> Moved
     ensures { acted result tape.new ≡ leaving (seat port drive tape.old) drive.mode }
 {
-    let mode = drive.mode;
-    if mode.is_writing() {
+    if drive.mode.is_writing() {
         return leave_writing(port, drive, tape);
     }
     falls(false, port, drive.in_mode(Mode::Idle).rewind())

@@ -25,14 +25,12 @@ fn hand(port: Port, drive: Drive, tape: &[u8], n: usize) -> Moved
             drive,
         );
     }
-    let past = drive.pass_to(head + BLOCK_SIZE);
-    let edge = check(past, tape);
-    let after = edge.drive;
+    let edge = check(drive.pass_to(head + BLOCK_SIZE), tape);
     hands(
         edge.raised,
         tape[head + BODY],
         port.at_phase(Phase::Rest),
-        after,
+        edge.drive,
     )
 }
 
@@ -41,9 +39,8 @@ fn take_first(port: Port, drive: Drive, tape: &[u8]) -> Moved
     ensures { acted result tape.now ≡ first_taken (seat port drive tape.now) (checked tape.now drive) }
 {
     let edge = check(drive, tape);
-    let after = edge.drive;
     if edge.raised {
-        rests(true, port, after)
+        rests(true, port, edge.drive)
     } else {
         hand(port, drive, tape, 0)
     }
@@ -77,8 +74,7 @@ fn take_octet(port: Port, drive: Drive, k: usize) -> Moved
 pub fn take(port: Port, drive: Drive, tape: &[u8]) -> Moved
     ensures { acted result tape.now ≡ byte_taken (seat port drive tape.now) port.phase }
 {
-    let phase = port.phase;
-    match phase {
+    match port.phase {
         Phase::Rest => take_first(port, drive, tape),
         Phase::Taking(_) => leaves(false, port, drive),
         Phase::Giving(n) => take_next(port, drive, tape, n),

@@ -1,12 +1,13 @@
 // Runs a raw trace from standard input on a fresh unit with four blank tapes, and shows each answer as a line.
 #![tactic(auto)]
 
-ghost use Rattle.std.specs.Prelude.{◌≤◌, length};
+ghost use Rattle.std.specs.Prelude.{◌≤◌, length, IfSome};
 
 use rules::Core;
 use std::io::{Eprint, Input, Print, Read};
 use tape::BODY;
 use trace::Halt;
+use unit::Tapes;
 
 // The bytes of each tape.
 const TAPE: usize = 16384;
@@ -14,13 +15,12 @@ const TAPE: usize = 16384;
 // The bytes that are read or written at a time.
 const PIECE: usize = 65536;
 
-// The bytes of input that are not run yet, whether no more will come, and whether to go on.
+// The bytes of input that are not run yet, and whether no more will come.
 #[derive(Clone, Copy)]
 struct Piece {
     from: usize,
     to: usize,
     ending: bool,
-    going: bool,
 }
 
 // Writes to standard output, or says why it cannot.
@@ -34,119 +34,84 @@ fn write<R: Print + Eprint>(rt: &R, text: &[u8]) -> bool {
     }
 }
 
-// Nothing more is run.
-fn over() -> Piece
-    ensures { (result.from ≤ result.to) × (result.to ≤ 0) }
+// Reads once, behind what was left over. A read that fails is said, and nothing more is run: what was left over is no event.
+fn read_more<R: Input + Eprint>(rt: &R, input: &mut [u8], left: Piece) -> Option<Piece>
+    ensures { IfSome result (λ p. (p.from ≤ p.to) × (p.to ≤ length input.old)) }
 {
-    Piece {
-        from: 0,
-        to: 0,
-        ending: true,
-        going: false,
-    }
-}
-
-// Reads once, behind what was left over. A read that fails is said, and what was left over is no event.
-fn read_more<R: Input + Eprint>(rt: &R, input: &mut [u8], from: usize, to: usize) -> Piece
-    ensures { (result.from ≤ result.to) × (result.to ≤ length input.old) }
-{
-    let rest = trace::keep_rest(input, from, to);
+    let rest = trace::keep_rest(input, left.from, left.to);
     match rt.reader().read(&mut input[rest..]) {
-        Ok(n) => Piece {
+        Ok(n) => Some(Piece {
             from: 0,
             to: rest + n,
             ending: n == 0,
-            going: true,
-        },
+        }),
         Err(e) => {
             let _ = eprintln!(rt; "standard input: {e}");
-            over()
+            None
         }
     }
 }
 
-// Writes the lines of a run, and goes by why it halted.
+// Writes the lines of a run, and goes by why it halted: what is to be run next, if anything.
 fn go_on<R: Input + Print + Eprint>(
     rt: &R,
     halt: Halt,
     lines: &[u8],
     input: &mut [u8],
-    from: usize,
-    to: usize,
-    ending: bool,
-) -> Piece
-    requires { (from ≤ to) × (to ≤ length input.old) }
-    ensures { (result.from ≤ result.to) × (result.to ≤ length input.old) }
+    left: Piece,
+) -> Option<Piece>
+    requires { (left.from ≤ left.to) × (left.to ≤ length input.old) }
+    ensures { IfSome result (λ p. (p.from ≤ p.to) × (p.to ≤ length input.old)) }
 {
-    if write(rt, lines) {
-        match halt {
-            Halt::RoomOut => Piece {
-                from,
-                to,
-                ending,
-                going: true,
-            },
-            Halt::InputOut => if ending {
-                over()
-            } else {
-                read_more(rt, input, from, to)
-            },
-            Halt::Stopped => over(),
-        }
-    } else {
-        over()
+    if !write(rt, lines) {
+        return None;
+    }
+    match halt {
+        Halt::RoomOut => Some(left),
+        Halt::InputOut => if left.ending {
+            None
+        } else {
+            read_more(rt, input, left)
+        },
+        Halt::Stopped => None,
     }
 }
 
-// Runs and reads by turns, and answers how many events were answered. The turns fall from a number that no run uses up.
+// Runs and reads by turns, and answers how many events were answered. No run uses up so many turns.
 fn replay<R: Input + Print + Eprint>(
     rt: &R,
     staging: &mut [u8; BODY],
-    tape0: &mut [u8],
-    tape1: &mut [u8],
-    tape2: &mut [u8],
-    tape3: &mut [u8],
+    tapes: &mut Tapes<'_>,
     input: &mut [u8],
     out: &mut [u8],
 ) -> u64 {
     let mut core = Core::fresh();
     let mut count: u64 = 0;
-    let mut from: usize = 0;
-    let mut to: usize = 0;
-    let mut ending = false;
-    let mut going = true;
-    let mut turns = u64::MAX;
-    while going & (0 < turns) {
+    let mut piece = Piece {
+        from: 0,
+        to: 0,
+        ending: false,
+    };
+    for _ in 0..u64::MAX {
         let run = trace::play(
             core,
             staging,
-            tape0,
-            tape1,
-            tape2,
-            tape3,
-            &input[from..to],
-            ending,
+            tapes,
+            &input[piece.from..piece.to],
+            piece.ending,
             count,
             out,
         );
-        let halt = run.halt;
-        let written = run.written;
-        let next = go_on(
-            rt,
-            halt,
-            &out[..written],
-            input,
-            from + run.used,
-            to,
-            ending,
-        );
         core = run.core;
         count = run.count;
-        from = next.from;
-        to = next.to;
-        ending = next.ending;
-        going = next.going;
-        turns -= 1;
+        let left = Piece {
+            from: piece.from + run.used,
+            ..piece
+        };
+        let Some(next) = go_on(rt, run.halt, &out[..run.written], input, left) else {
+            break;
+        };
+        piece = next;
     }
     count
 }
@@ -157,19 +122,16 @@ fn main(rt: HostRuntime) {
     let mut tape1 = [0u8; TAPE];
     let mut tape2 = [0u8; TAPE];
     let mut tape3 = [0u8; TAPE];
+    let mut tapes = Tapes {
+        tape0: &mut tape0,
+        tape1: &mut tape1,
+        tape2: &mut tape2,
+        tape3: &mut tape3,
+    };
     let mut input = [0u8; PIECE];
     let mut out = [0u8; PIECE];
     if write(&rt, b"tape unit, 4 drives\n") {
-        let count = replay(
-            &rt,
-            &mut staging,
-            &mut tape0,
-            &mut tape1,
-            &mut tape2,
-            &mut tape3,
-            &mut input,
-            &mut out,
-        );
+        let count = replay(&rt, &mut staging, &mut tapes, &mut input, &mut out);
         if let Err(e) = println!(rt; "{count} events") {
             let _ = eprintln!(rt; "standard output: {e}");
         }

@@ -1,8 +1,8 @@
 // The six octets of a report.
 ghost use Rattle.std.specs.Prelude.{◌≡◌, ◌≤◌};
-ghost use Rattle.rules.specs.Octets.{bit, errors_high, errors_low, underruns_high, underruns_low, octets_of};
+ghost use Rattle.rules.specs.Octets.{bit, high, low, octets_of};
 
-use rules::{Drive, Errors, OCTETS, Underruns};
+use rules::{Counter, Drive, OCTETS};
 
 // The places of the bits in an octet, by their weights.
 const BIT_0: u8 = 1;
@@ -28,30 +28,17 @@ fn bit(weight: u8, stands: bool) -> u8
     if stands { weight } else { 0 }
 }
 
-// Octets 2 and 3 see the data error counter alone.
-fn errors_high(errors: Errors) -> u8
-    ensures { result ≡ errors_high errors }
+// Octets 2 to 5 see one counter alone: 2 and 3 the errors, 4 and 5 the underruns.
+fn high<C: Counter>(counter: C) -> u8
+    ensures { result ≡ high (C.number counter) }
 {
-    (errors.0 / 256) as u8
+    (counter.number() / 256) as u8
 }
 
-fn errors_low(errors: Errors) -> u8
-    ensures { result ≡ errors_low errors }
+fn low<C: Counter>(counter: C) -> u8
+    ensures { result ≡ low (C.number counter) }
 {
-    (errors.0 % 256) as u8
-}
-
-// Octets 4 and 5 see the underrun counter alone.
-fn underruns_high(underruns: Underruns) -> u8
-    ensures { result ≡ underruns_high underruns }
-{
-    (underruns.0 / 256) as u8
-}
-
-fn underruns_low(underruns: Underruns) -> u8
-    ensures { result ≡ underruns_low underruns }
-{
-    (underruns.0 % 256) as u8
+    (counter.number() % 256) as u8
 }
 
 // Octets 1 and 0 as section 5 of QIC-02 Rev D lists them, a line for each bit from bit 0 to bit 7: its name, its place, where it comes from.
@@ -86,9 +73,9 @@ pub fn octets(drive: Drive) -> [u8; OCTETS]
     [
         octet0,
         octet1,
-        errors_high(errors),
-        errors_low(errors),
-        underruns_high(underruns),
-        underruns_low(underruns),
+        high(errors),
+        low(errors),
+        high(underruns),
+        low(underruns),
     ]
 }

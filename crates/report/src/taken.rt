@@ -29,7 +29,5 @@ pub fn after_octet(k: usize) -> Phase
 pub fn next_octet(port: Port, k: usize) -> u8
     ensures { result ≡ get_or port.octets (octet_place k) 0 }
 {
-    let octets = port.octets;
-    let i = octet_place(k);
-    octets[i]
+    port.octets[octet_place(k)]
 }

@@ -7,9 +7,12 @@ use native.Mathlib.Omega.{arith}
 use lib.Dec.{ltb, leb}
 use lib.ListN.{length, get_or}
 use borrow.Author.Tests.{leb-true, ltb-true, ltb-false}
+use Rattle.std.specs.Prelude.{Result, Ok, Err, Option, None, Some}
 use Rattle.basis.specs.Choice.{pick}
-use Rattle.tape.specs.declared.found.Found.{Found}
-use Rattle.tape.specs.declared.found.Found.TheVariants.{Block, Mark, Stop}
+use Rattle.std.specs.Prelude.{Result, Ok, Err}
+use Rattle.tape.specs.declared.found.Kind.{Kind}
+use Rattle.tape.specs.declared.found.Kind.TheVariants.{Block, Mark}
+use Rattle.tape.specs.declared.found.Why.{Why}
 use Rattle.tape.specs.Record.{found_at}
 use Rattle.tape.specs.Recording.{erased}
 use Rattle.tape.specs.Walk.{passed}
@@ -23,10 +26,10 @@ use Rattle.rules.specs.declared.phase.Phase.TheVariants.{Rest, Taking, Giving, S
 use Rattle.rules.specs.declared.event.Act.{Act}
 use Rattle.rules.specs.declared.event.Act.TheVariants.{Command, Give, Take, Online, Offline}
 use Rattle.rules.specs.declared.order.Order.{Order}
-use Rattle.rules.specs.declared.order.Order.TheVariants.{NoOrder, Select, Bot, Erase, Initialize, Write, WriteMark, Read, ReadMark, ReadStatus}
+use Rattle.rules.specs.declared.order.Order.TheVariants.{Select, Bot, Erase, Initialize, Write, WriteMark, Read, ReadMark, ReadStatus}
 use Rattle.rules.specs.declared.order.Needs.{Needs}
 use Rattle.rules.specs.declared.order.Fault.{Fault}
-use Rattle.rules.specs.declared.order.Fault.TheVariants.{Fine, Illegal, Empty, Plugged, Full}
+use Rattle.rules.specs.declared.order.Fault.TheVariants.{Illegal, Empty, Plugged, Full}
 use Rattle.rules.specs.Drive.{is_writing, is_reading, writes, reads, rewound, chosen, raised, latching, stopping, in_mode, made, passed_to, cleared}
 use Rattle.rules.specs.Late.{begun, one_less, block_room}
 use Rattle.rules.specs.Unit.{at_phase, at_drive, at_level, showing}
@@ -46,7 +49,7 @@ use Rattle.rules.proofs.Sound.{SoundSeat}
 use Rattle.rules.proofs.Codes.{select_real, erase_code, write_code, mark_code, status_code}
 
 -- What an order that passed the tests has shown.
-pub record Passes (s : Seat) (o : Order) : Type 0 where
+pub record Passes (s : Seat) (o : Option Order) : Type 0 where
   pub sequence : in_sequence s.drive.mode (needs_of o) ≡ true
   pub cartridge : test5 s.drive (needs_of o) ≡ false
   pub plug : test6 s.drive (needs_of o) ≡ false
@@ -55,13 +58,13 @@ pub record Passes (s : Seat) (o : Order) : Type 0 where
 pub data Does (g : List ℕ) (s : Seat) : Act → Acted → Type 0 where
   -- orders that passed the tests
   nothing : (c : ℕ) → Does g s (Command c) (leaves false (resting s) s.drive s.tape)
-  selects : (c n : ℕ) → n ≤ 3 → order_of c ≡ Select n → Does g s (Command c) (leaves false (at_drive n s.port) (chosen s.drive) s.tape)
+  selects : (c n : ℕ) → n ≤ 3 → order_of c ≡ Some (Select n) → Does g s (Command c) (leaves false (at_drive n s.port) (chosen s.drive) s.tape)
   rewinds : (c : ℕ) → s.drive.mode ≡ Idle → Does g s (Command c) (leaves false (resting s) (rewound s.drive) s.tape)
-  erases : Passes s Erase → Does g s (Command 34) (leaves false (resting s) (rewound s.drive) (erased s.tape))
-  sets_writing : Passes s Write → Does g s (Command 64) (leaves false (resting s) (begun (length s.tape) s.drive) s.tape)
-  records_mark : Passes s WriteMark
+  erases : Passes s (Some Erase) → Does g s (Command 34) (leaves false (resting s) (rewound s.drive) (erased s.tape))
+  sets_writing : Passes s (Some Write) → Does g s (Command 64) (leaves false (resting s) (begun (length s.tape) s.drive) s.tape)
+  records_mark : Passes s (Some WriteMark)
       → Does g s (Command 96) (leaves false (resting s) (in_mode Idle (made (s.drive.head + 1) s.drive)) (with_mark s.drive s.tape))
-  sets_reading : (c : ℕ) → Passes s Read
+  sets_reading : (c : ℕ) → Passes s (Some Read)
       → Does g s (Command c) (leaves (checked s.tape (in_mode Reading s.drive)).raised (resting s)
       (checked s.tape (in_mode Reading s.drive)).drive s.tape)
   searches : (c : ℕ) → Does g s (Command c) (leaves true (resting s) (standing (passed s.tape s.drive.head) s.drive) s.tape)
@@ -83,9 +86,9 @@ pub data Does (g : List ℕ) (s : Seat) : Act → Acted → Type 0 where
   -- a byte taken
   hands_octet : (k : ℕ) → s.port.phase ≡ Status k
       → Does g s Take (hands false (get_or s.port.octets (octet_place k) 0) (at_phase (after_octet k) s.port) s.drive s.tape)
-  hands_byte : (n : ℕ) → n + 1 ≤ 511 → s.drive.mode ≡ Reading → found_at s.tape s.drive.head ≡ Block
+  hands_byte : (n : ℕ) → n + 1 ≤ 511 → s.drive.mode ≡ Reading → found_at s.tape s.drive.head ≡ Ok Block
       → Does g s Take (hands false (get_or s.tape (s.drive.head + 1 + n) 0) (at_phase (Giving (n + 1)) s.port) s.drive s.tape)
-  hands_last : s.port.phase ≡ Giving 511 → s.drive.mode ≡ Reading → found_at s.tape s.drive.head ≡ Block
+  hands_last : s.port.phase ≡ Giving 511 → s.drive.mode ≡ Reading → found_at s.tape s.drive.head ≡ Ok Block
       → Does g s Take
       (hands (checked s.tape (passed_to (s.drive.head + 513) s.drive)).raised (get_or s.tape (s.drive.head + 512) 0) (resting s)
       (checked s.tape (passed_to (s.drive.head + 513) s.drive)).drive s.tape)
@@ -125,7 +128,7 @@ only_idle Idle n w r h = refl
 only_idle Writing n w r h = absurd (false≢true (sym w ∙ h))
 only_idle Reading n w r h = absurd (false≢true (sym r ∙ h))
 
-passes : (s : Seat) (o : Order) → fault_of s o ≡ Fine → Passes s o
+passes : (s : Seat) (o : Option Order) → fault_of s o ≡ Ok tt → Passes s o
 unfolding fault_of fault_by pick
 passes s o =
     go (illegal s.port.online s.drive (needs_of o)) (test5 s.drive (needs_of o)) (test6 s.drive (needs_of o))
@@ -133,7 +136,7 @@ passes s o =
   where
     go : (i e p r : Bool) → illegal s.port.online s.drive (needs_of o) ≡ i → test5 s.drive (needs_of o) ≡ e
         → test6 s.drive (needs_of o) ≡ p → has_room (needs_of o).room s.drive.head (length s.tape) ≡ r
-        → first_fault i e p r ≡ Fine → Passes s o
+        → first_fault i e p r ≡ Ok tt → Passes s o
     go true e p r qi qe qp qr h = record { sequence = cc; cartridge = cc; plug = cc; room = cc }
     go false true p r qi qe qp qr h = record { sequence = cc; cartridge = cc; plug = cc; room = cc }
     go false false true r qi qe qp qr h = record { sequence = cc; cartridge = cc; plug = cc; room = cc }
@@ -151,12 +154,12 @@ reading_is Idle h = cc
 reading_is Writing h = cc
 reading_is Reading h = refl
 
-block_is : (f : Found) → is_block f ≡ true → f ≡ Block
-block_is Block e = refl
-block_is Mark e = cc
-block_is (Stop w) e = cc
+block_is : (f : Result Kind Why) → is_block f ≡ true → f ≡ Ok Block
+block_is (Ok Block) e = refl
+block_is (Ok Mark) e = cc
+block_is (Err w) e = cc
 
-unraised_block : (t : List ℕ) (d : Drive) → (checked t d).raised ≡ false → found_at t d.head ≡ Block
+unraised_block : (t : List ℕ) (d : Drive) → (checked t d).raised ≡ false → found_at t d.head ≡ Ok Block
 unfolding checked
 unraised_block t d e = block_is (found_at t d.head) (not_not (is_block (found_at t d.head)) e)
 
@@ -176,24 +179,24 @@ full_place (Giving n) m k h = absurd (omega (arith, h))
 full_place (Status n) m k h = absurd (omega (arith, h))
 
 module _ (g : List ℕ) (s : Seat) (ok : SoundSeat s) where
-  ordered_does : (c : ℕ) (o : Order) → order_of c ≡ o → Passes s o → Does g s (Command c) (ordered s o)
-  ordered_does c NoOrder e p = nothing c
-  ordered_does c (Select n) e p = selects c n (select_real c n e) e
-  ordered_does c Bot e p = rewinds c (only_idle s.drive.mode (needs_of Bot) refl refl p.sequence)
-  ordered_does c Erase e p = rw (erase_code c e) (erases p)
-  ordered_does c Initialize e p = rewinds c (only_idle s.drive.mode (needs_of Initialize) refl refl p.sequence)
-  ordered_does c Write e p = rw (write_code c e) (sets_writing p)
-  ordered_does c WriteMark e p = rw (mark_code c e) (records_mark p)
-  ordered_does c Read e p = sets_reading c p
-  ordered_does c ReadMark e p = searches c
-  ordered_does c ReadStatus e p = rw (status_code c e) reports
+  ordered_does : (c : ℕ) (o : Option Order) → order_of c ≡ o → Passes s o → Does g s (Command c) (ordered s o)
+  ordered_does c None e p = nothing c
+  ordered_does c (Some (Select n)) e p = selects c n (select_real c n e) e
+  ordered_does c (Some Bot) e p = rewinds c (only_idle s.drive.mode (needs_of (Some Bot)) refl refl p.sequence)
+  ordered_does c (Some Erase) e p = rw (erase_code c e) (erases p)
+  ordered_does c (Some Initialize) e p = rewinds c (only_idle s.drive.mode (needs_of (Some Initialize)) refl refl p.sequence)
+  ordered_does c (Some Write) e p = rw (write_code c e) (sets_writing p)
+  ordered_does c (Some WriteMark) e p = rw (mark_code c e) (records_mark p)
+  ordered_does c (Some Read) e p = sets_reading c p
+  ordered_does c (Some ReadMark) e p = searches c
+  ordered_does c (Some ReadStatus) e p = rw (status_code c e) reports
 
-  commanded_does : (c : ℕ) (o : Order) → order_of c ≡ o → (f : Fault) → fault_of s o ≡ f → Does g s (Command c) (commanded s o f)
-  commanded_does c o e Fine h = ordered_does c o e (passes s o h)
-  commanded_does c o e Illegal h = faults c Ill
-  commanded_does c o e Empty h = faults c Cni
-  commanded_does c o e Plugged h = meets_plug c
-  commanded_does c o e Full h = finds_no_room c
+  commanded_does : (c : ℕ) (o : Option Order) → order_of c ≡ o → (f : Result (Unit {0}) Fault) → fault_of s o ≡ f → Does g s (Command c) (commanded s o f)
+  commanded_does c o e (Ok u) h = ordered_does c o e (passes s o h)
+  commanded_does c o e (Err Illegal) h = faults c Ill
+  commanded_does c o e (Err Empty) h = faults c Cni
+  commanded_does c o e (Err Plugged) h = meets_plug c
+  commanded_does c o e (Err Full) h = finds_no_room c
 
   given_does : (b n : ℕ) → (511 ≤ n → s.port.phase ≡ Taking 511) → s.drive.mode ≡ Writing → Does g s (Give b) (byte_given g s n)
   unfolding stored after_block
@@ -206,7 +209,7 @@ module _ (g : List ℕ) (s : Seat) (ok : SoundSeat s) where
       (λ _. drops_block b))
 
   handed_does : (n : ℕ) → n ≤ 511 → (n ≡ 511 → s.port.phase ≡ Giving 511) → s.drive.mode ≡ Reading
-      → found_at s.tape s.drive.head ≡ Block → Does g s Take (handed s n)
+      → found_at s.tape s.drive.head ≡ Ok Block → Does g s Take (handed s n)
   unfolding handed
   handed_does n l q w e =
       by_test (ltb n 511) (λ h. hands_byte n (omega (arith, ltb-true n 511 h)) w e)

@@ -3,14 +3,18 @@ use Prim.Native.Nat.{ℕ, suc, ◌+◌, ◌-◌, ◌≤◌, ◌<◌}
 use mathlib.Core.Path.{◌≡◌, refl, sym, ap, subst, ◌∙◌}
 use mathlib.Core.Bool.{Bool, true, false, false≢true}
 use mathlib.Core.List.{List, ◌++◌}
+use Rattle.std.specs.Prelude.{Some}
 use native.Mathlib.Omega.{arith}
 use native.Mathlib.Numerals.{add-one}
 use lib.Dec.{ltb, leb}
 use lib.ListN.{length, get_or, set, take, replicate, length-set}
 use lib.Seq.{take-suc-set, take_all}
 use borrow.Author.Tests.{ltb-false}
+use Rattle.std.specs.Prelude.{Result, Ok, Err, Option, None, Some}
 use Rattle.basis.specs.Choice.{pick}
-use Rattle.tape.specs.declared.found.Found.{Found}
+use Rattle.std.specs.Prelude.{Result}
+use Rattle.tape.specs.declared.found.Kind.{Kind}
+use Rattle.tape.specs.declared.found.Why.{Why}
 use Rattle.tape.specs.Record.{found_at}
 use Rattle.rules.specs.declared.drive.Mode.{Mode}
 use Rattle.rules.specs.declared.drive.Mode.TheVariants.{Idle, Writing, Reading}
@@ -19,9 +23,9 @@ use Rattle.rules.specs.declared.phase.Phase.TheVariants.{Rest, Taking, Giving, S
 use Rattle.rules.specs.declared.event.Act.{Act}
 use Rattle.rules.specs.declared.event.Act.TheVariants.{Command, Give, Take, Online, Offline}
 use Rattle.rules.specs.declared.order.Order.{Order}
-use Rattle.rules.specs.declared.order.Order.TheVariants.{NoOrder, Select, Bot, Erase, Initialize, Write, WriteMark, Read, ReadMark, ReadStatus}
+use Rattle.rules.specs.declared.order.Order.TheVariants.{Select, Bot, Erase, Initialize, Write, WriteMark, Read, ReadMark, ReadStatus}
 use Rattle.rules.specs.declared.order.Fault.{Fault}
-use Rattle.rules.specs.declared.order.Fault.TheVariants.{Fine, Illegal, Empty, Plugged, Full}
+use Rattle.rules.specs.declared.order.Fault.TheVariants.{Illegal, Empty, Plugged, Full}
 use Rattle.rules.specs.declared.order.Checked.{Checked}
 use Rattle.rules.specs.Drive.{reads}
 use Rattle.rules.specs.Late.{block_room}
@@ -44,7 +48,6 @@ seen s = seat (here_port s.port) s.drive s.tape
 -- Two acts that the selected drive cannot tell apart; g and g' are the staging blocks after them.
 pub record Agree (g g' : List ℕ) (m m' : Acted) : Type 0 where
   pub raised : m.moved.raised ≡ m'.moved.raised
-  pub given : m.moved.given ≡ m'.moved.given
   pub byte : m.moved.byte ≡ m'.moved.byte
   pub port : here_port m.moved.port ≡ here_port m'.moved.port
   pub drive : m.moved.drive ≡ m'.moved.drive
@@ -57,49 +60,49 @@ agree_pick true f h = f
 agree_pick false f h = h
 
 -- the same answer, record and tape, at a phase that shows no block
-same : {g g' : List ℕ} {m m' : Acted} → m.moved.raised ≡ m'.moved.raised → m.moved.given ≡ m'.moved.given → m.moved.byte ≡ m'.moved.byte
+same : {g g' : List ℕ} {m m' : Acted} → m.moved.raised ≡ m'.moved.raised → m.moved.byte ≡ m'.moved.byte
     → here_port m.moved.port ≡ here_port m'.moved.port → m.moved.drive ≡ m'.moved.drive → m.tape ≡ m'.tape
     → staging_in m.moved.port.phase g ≡ staging_in m'.moved.port.phase g' → Agree g g' m m'
-same a b c p d t h = record { raised = a; given = b; byte = c; port = p; drive = d; tape = t; block = h }
+same a b p d t h = record { raised = a; byte = b; port = p; drive = d; tape = t; block = h }
 
 module _ (s : Seat) (g g' : List ℕ) where
-  ordered_agree : (o : Order) → Agree g g' (ordered s o) (ordered (seen s) o)
-  ordered_agree NoOrder = same refl refl refl refl refl refl refl
-  ordered_agree (Select n) = same refl refl refl refl refl refl refl
-  ordered_agree Bot = same refl refl refl refl refl refl refl
-  ordered_agree Erase = same refl refl refl refl refl refl refl
-  ordered_agree Initialize = same refl refl refl refl refl refl refl
-  ordered_agree Write = same refl refl refl refl refl refl refl
-  ordered_agree WriteMark = same refl refl refl refl refl refl refl
-  ordered_agree Read = same refl refl refl refl refl refl refl
-  ordered_agree ReadMark = same refl refl refl refl refl refl refl
-  ordered_agree ReadStatus = same refl refl refl refl refl refl refl
+  ordered_agree : (o : Option Order) → Agree g g' (ordered s o) (ordered (seen s) o)
+  ordered_agree None = same refl refl refl refl refl refl
+  ordered_agree (Some (Select n)) = same refl refl refl refl refl refl
+  ordered_agree (Some Bot) = same refl refl refl refl refl refl
+  ordered_agree (Some Erase) = same refl refl refl refl refl refl
+  ordered_agree (Some Initialize) = same refl refl refl refl refl refl
+  ordered_agree (Some Write) = same refl refl refl refl refl refl
+  ordered_agree (Some WriteMark) = same refl refl refl refl refl refl
+  ordered_agree (Some Read) = same refl refl refl refl refl refl
+  ordered_agree (Some ReadMark) = same refl refl refl refl refl refl
+  ordered_agree (Some ReadStatus) = same refl refl refl refl refl refl
 
-  commanded_agree : (o : Order) (f : Fault) → Agree g g' (commanded s o f) (commanded (seen s) o f)
-  commanded_agree o Fine = ordered_agree o
-  commanded_agree o Illegal = same refl refl refl refl refl refl refl
-  commanded_agree o Empty = same refl refl refl refl refl refl refl
-  commanded_agree o Plugged = same refl refl refl refl refl refl refl
-  commanded_agree o Full = same refl refl refl refl refl refl refl
+  commanded_agree : (o : Option Order) (f : Result (Unit {0}) Fault) → Agree g g' (commanded s o f) (commanded (seen s) o f)
+  commanded_agree o (Ok u) = ordered_agree o
+  commanded_agree o (Err Illegal) = same refl refl refl refl refl refl
+  commanded_agree o (Err Empty) = same refl refl refl refl refl refl
+  commanded_agree o (Err Plugged) = same refl refl refl refl refl refl
+  commanded_agree o (Err Full) = same refl refl refl refl refl refl
 
   handed_agree : (n : ℕ) → Agree g g' (handed s n) (handed (seen s) n)
   unfolding handed
-  handed_agree n = agree_pick (ltb n 511) (same refl refl refl refl refl refl refl) (same refl refl refl refl refl refl refl)
+  handed_agree n = agree_pick (ltb n 511) (same refl refl refl refl refl refl) (same refl refl refl refl refl refl)
 
   first_agree : (c : Checked) → Agree g g' (first_taken s c) (first_taken (seen s) c)
-  first_agree c = agree_pick c.raised (same refl refl refl refl refl refl refl) (handed_agree 0)
+  first_agree c = agree_pick c.raised (same refl refl refl refl refl refl) (handed_agree 0)
 
-  next_agree : (n : ℕ) (f : Found) → Agree g g' (next_taken s n f) (next_taken (seen s) n f)
-  next_agree n f = agree_pick (is_block f) (handed_agree n) (same refl refl refl refl refl refl refl)
+  next_agree : (n : ℕ) (f : Result Kind Why) → Agree g g' (next_taken s n f) (next_taken (seen s) n f)
+  next_agree n f = agree_pick (is_block f) (handed_agree n) (same refl refl refl refl refl refl)
 
   octet_agree : (k : ℕ) → s.port.octets ≡ octets_in s.port.phase s.port.octets → (b : Bool)
       → Agree g g' (hands false (get_or s.port.octets (octet_place k) 0) (at_phase (pick b Rest (Status (k - 1))) s.port) s.drive s.tape)
       (hands false (get_or (octets_in s.port.phase s.port.octets) (octet_place k) 0)
       (at_phase (pick b Rest (Status (k - 1))) (here_port s.port)) s.drive s.tape)
   unfolding pick
-  octet_agree k e true = same refl refl (ap (λ (o : List ℕ). get_or o (octet_place k) 0) e) refl refl refl refl
+  octet_agree k e true = same refl (ap (λ (o : List ℕ). Some (get_or o (octet_place k) 0)) e) refl refl refl refl
   octet_agree k e false =
-      same refl refl (ap (λ (o : List ℕ). get_or o (octet_place k) 0) e)
+      same refl (ap (λ (o : List ℕ). Some (get_or o (octet_place k) 0)) e)
       (ap (λ (o : List ℕ). record { selected = s.port.selected; online = s.port.online; phase = Status (k - 1); octets = o }) e) refl refl refl
 
   taken_agree : (ph : Phase) → s.port.phase ≡ ph → gives ph (reads s.drive) ≡ true → Agree g g' (byte_taken s ph) (byte_taken (seen s) ph)
@@ -110,26 +113,26 @@ module _ (s : Seat) (g g' : List ℕ) where
   taken_agree (Status k) e h = octet_agree k (ap (λ (q : Phase). octets_in q s.port.octets) (sym e)) (leb k 1)
 
   leaving_agree : (m : Mode) → Agree g g' (leaving s m) (leaving (seen s) m)
-  leaving_agree Idle = same refl refl refl refl refl refl refl
+  leaving_agree Idle = same refl refl refl refl refl refl
   leaving_agree Writing =
-      agree_pick (leb (s.drive.head + 1) (length s.tape)) (same refl refl refl refl refl refl refl) (same refl refl refl refl refl refl refl)
-  leaving_agree Reading = same refl refl refl refl refl refl refl
+      agree_pick (leb (s.drive.head + 1) (length s.tape)) (same refl refl refl refl refl refl) (same refl refl refl refl refl refl)
+  leaving_agree Reading = same refl refl refl refl refl refl
 
   dropped_agree : Agree g g' (dropped s) (dropped (seen s))
   unfolding dropped
   dropped_agree =
       agree_pick s.port.online
-      (agree_pick s.drive.exception (same refl refl refl refl refl refl refl)
-      (agree_pick s.drive.loaded (leaving_agree s.drive.mode) (same refl refl refl refl refl refl refl)))
-      (same refl refl refl refl refl refl refl)
+      (agree_pick s.drive.exception (same refl refl refl refl refl refl)
+      (agree_pick s.drive.loaded (leaving_agree s.drive.mode) (same refl refl refl refl refl refl)))
+      (same refl refl refl refl refl refl)
 
   stored_agree : g ≡ g' → Agree g g' (stored g (resting s) s.drive s.tape) (stored g' (resting (seen s)) s.drive s.tape)
   unfolding stored after_block
   stored_agree e =
       rw e
       (agree_pick (block_room s.drive.late s.drive.head (length s.tape))
-      (agree_pick _ (same refl refl refl refl refl refl refl) (same refl refl refl refl refl refl refl))
-      (same refl refl refl refl refl refl refl))
+      (agree_pick _ (same refl refl refl refl refl refl) (same refl refl refl refl refl refl))
+      (same refl refl refl refl refl refl))
 
 -- ---- a byte staged
 
@@ -167,7 +170,7 @@ module _ (s : Seat) (ok : SoundSeat s) (g : List ℕ) (whole : length g ≡ 512)
           (stored (set g (pick c n 511) b) (resting s) s.drive s.tape))
           (pick c (leaves false (at_phase (Taking (n + 1)) (here_port s.port)) s.drive s.tape)
           (stored (set cut (pick c n 511) b) (resting (seen s)) s.drive s.tape))
-      go true q = same refl refl refl refl refl refl (put_shown g cut n b (omega (arith, whole, h)) (omega (arith, w, h)) e)
+      go true q = same refl refl refl refl refl (put_shown g cut n b (omega (arith, whole, h)) (omega (arith, w, h)) e)
       go false q =
           let k : n ≡ 511 = omega (arith, ltb-false n 511 q) in
           stored_agree s (set g 511 b) (set cut 511 b) (put_whole g cut 511 b whole w (subst (λ (i : ℕ). take i g ≡ take i cut) k e))
@@ -182,5 +185,5 @@ module _ (s : Seat) (ok : SoundSeat s) (g : List ℕ) (whole : length g ≡ 512)
       given_agree (given_before s.port.phase) b below (given_seen s.port.phase g below whole)
       (staging_length s.port.phase s.drive.mode g ok.phase whole)
   act_agree Take h = taken_agree s g cut s.port.phase refl h
-  act_agree Online h = same refl refl refl refl refl refl refl
+  act_agree Online h = same refl refl refl refl refl refl
   act_agree Offline h = dropped_agree s g cut

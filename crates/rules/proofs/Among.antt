@@ -3,7 +3,8 @@ use Prim.Native.Nat.{ℕ, zero, suc, ◌*◌}
 use mathlib.Core.Path.{◌≡◌, refl, sym, ap, subst, ◌∙◌}
 use mathlib.Core.Bool.{true}
 use mathlib.Core.List.{List, [], ◌∷◌, ◌++◌}
-use mathlib.Core.Option.{Option, none, some}
+use Rattle.std.specs.Prelude.{Result, Ok, Err, Option, None, Some}
+use Rattle.std.specs.List.{cons_option}
 use lib.ListN.{length}
 use borrow.Author.Tests.{eq-eqb}
 use Rattle.basis.specs.Choice.{pick}
@@ -14,7 +15,7 @@ use Rattle.rules.specs.declared.event.Event.{Event}
 use Rattle.rules.specs.declared.event.Event.TheVariants.{Own}
 use Rattle.rules.specs.declared.order.Order.TheVariants.{Read}
 use Rattle.rules.specs.declared.order.Fault.{Fault}
-use Rattle.rules.specs.declared.order.Fault.TheVariants.{Fine, Illegal, Empty, Plugged, Full}
+use Rattle.rules.specs.declared.order.Fault.TheVariants.{Illegal, Empty, Plugged, Full}
 use Rattle.rules.specs.declared.answer.Answer.TheVariants.{Taken}
 use Rattle.rules.specs.Event.{event_of}
 use Rattle.rules.specs.Refusal.{refusal_in}
@@ -31,7 +32,7 @@ use Rattle.rules.proofs.Ports.{take_ported}
 use Rattle.rules.proofs.Demand3.{demand_3}
 use Rattle.rules.proofs.Ran.{run_append}
 use Rattle.rules.proofs.Handing.{take_event}
-use Rattle.rules.proofs.Blocks.{only_append}
+use Rattle.rules.proofs.Blocks.{only_append, cons_append}
 use Rattle.rules.proofs.Struck.{strike_recorded}
 use Rattle.rules.proofs.Returns.{strike_found, strike_comes_back}
 
@@ -44,10 +45,10 @@ given_append d w (e ∷ es) fs =
     ∙ only_append (reaches real_change d w e) (gave d w e) (given real_change d (after w e) es) (given real_change d (run (after w e) es) fs)
 
 byte_append : (s : Option Shown) (l m : List ℕ)
-    → (elim s [ none ↦ l ++ m | some x ↦ only_if x.given x.byte (l ++ m) ])
-    ≡ (elim s [ none ↦ l | some x ↦ only_if x.given x.byte l ]) ++ m
-byte_append none l m = refl
-byte_append (some x) l m = only_append x.given x.byte l m
+    → (elim s [ None ↦ l ++ m | Some x ↦ cons_option x.byte (l ++ m) ])
+    ≡ (elim s [ None ↦ l | Some x ↦ cons_option x.byte l ]) ++ m
+byte_append None l m = refl
+byte_append (Some x) l m = cons_append x.byte l m
 
 bytes_append : (gs hs : List Gave) → bytes_of (gs ++ hs) ≡ bytes_of gs ++ bytes_of hs
 bytes_append [] hs = refl
@@ -61,7 +62,7 @@ handed_by_append d w es fs =
 
 record Here (d : ℕ) (w : World) (e : List ℕ) : Type 0 where
   act : Act
-  is : event_of e ≡ Own act
+  is : event_of e ≡ Some (Own act)
   before : w.core.port.selected ≡ d
   after : (turn_of w e).core.port.selected ≡ d
 
@@ -73,7 +74,7 @@ here_reaches : (d : ℕ) (w : World) (e : List ℕ) → Here d w e → reaches r
 unfolding reaches
 here_reaches d w e h = rw (h.is, eq-eqb w.core.port.selected d h.before)
 
-here_shows : (d : ℕ) (w : World) (e : List ℕ) (l : List ℕ) → Here d w e → byte_of (gave d w e) l ≡ only_if (turn_of w e).given (turn_of w e).byte l
+here_shows : (d : ℕ) (w : World) (e : List ℕ) (l : List ℕ) → Here d w e → byte_of (gave d w e) l ≡ cons_option (turn_of w e).byte l
 unfolding gave pick
 here_shows d w e l h = rw (eq-eqb (turn_of w e).core.port.selected d h.after)
 
@@ -82,7 +83,7 @@ unfolding AllHere
 here_hands d w [] h = refl
 here_hands d w (e ∷ es) (h, hs) =
     rw (here_reaches d w e h)
-    (here_shows d w e (handed_by d (after w e) es) h ∙ ap (only_if (turn_of w e).given (turn_of w e).byte) (here_hands d (after w e) es hs))
+    (here_shows d w e (handed_by d (after w e) es) h ∙ ap (cons_option (turn_of w e).byte) (here_hands d (after w e) es hs))
 
 -- ---- reading leaves the drive selected
 
@@ -90,21 +91,21 @@ take_stays : (w : World) → Sound w.core w.lent → (turn_of w (3 ∷ [])).core
 unfolding turn_of
 take_stays w k =
     sound_step (λ s. s.turn.core.port.selected ≡ w.core.port.selected) w.core w.lent (3 ∷ []) k.whole (λ _. refl)
-    (λ k' h. subst (λ (e : Event). refusal_in w.core e ≡ Taken → (effect_of w.core w.lent e).turn.core.port.selected ≡ w.core.port.selected)
+    (λ k' h. subst (λ (e : Option Event). refusal_in w.core e ≡ Taken → (effect_of w.core w.lent e).turn.core.port.selected ≡ w.core.port.selected)
     (sym take_event) (λ h'. (take_ported _ _ _ (own_does w.core w.lent Take k' h')).0) h)
 
-read_here : (s : Seat) (f : Fault) → (commanded s Read f).moved.port.selected ≡ s.port.selected
-read_here s Fine = refl
-read_here s Illegal = refl
-read_here s Empty = refl
-read_here s Plugged = refl
-read_here s Full = refl
+read_here : (s : Seat) (f : Result (Unit {0}) Fault) → (commanded s (Some Read) f).moved.port.selected ≡ s.port.selected
+read_here s (Ok u) = refl
+read_here s (Err Illegal) = refl
+read_here s (Err Empty) = refl
+read_here s (Err Plugged) = refl
+read_here s (Err Full) = refl
 
 read_stays : (w : World) → Sound w.core w.lent → (turn_of w (1 ∷ 128 ∷ [])).core.port.selected ≡ w.core.port.selected
 unfolding turn_of
 read_stays w k =
     sound_step (λ s. s.turn.core.port.selected ≡ w.core.port.selected) w.core w.lent (1 ∷ 128 ∷ []) k.whole (λ _. refl)
-    (λ k' h. rw (command_event 128, orders.read) (read_here (seat_of w.core w.lent) (fault_of (seat_of w.core w.lent) Read)))
+    (λ k' h. rw (command_event 128, orders.read) (read_here (seat_of w.core w.lent) (fault_of (seat_of w.core w.lent) (Some Read))))
 
 takes_here : (d n : ℕ) (w : World) → Sound w.core w.lent → w.core.port.selected ≡ d → AllHere d w (taken_times n)
 unfolding AllHere after turn_of

@@ -3,12 +3,13 @@ use Prim.Native.Nat.{ℕ, ◌+◌}
 use mathlib.Core.Path.{◌≡◌, refl, sym, ap, ◌∙◌}
 use mathlib.Core.Bool.{true, false, true≢false, false≢true}
 use mathlib.Core.List.{List}
+use Rattle.std.specs.Prelude.{Result, Ok, Err, Option, None, Some}
 use Rattle.basis.specs.Choice.{pick}
-use Rattle.tape.specs.declared.found.Found.{Found}
-use Rattle.tape.specs.declared.found.Found.TheVariants.{Block, Mark, Stop}
+use Rattle.tape.specs.declared.found.Kind.{Kind}
+use Rattle.tape.specs.declared.found.Kind.TheVariants.{Block, Mark}
+use Rattle.tape.specs.declared.found.Why.{Why}
 use Rattle.tape.specs.declared.found.Why.TheVariants.{End, Unknown, Bad}
-use Rattle.tape.specs.declared.pass.Passed.{Passed}
-use Rattle.tape.specs.declared.pass.Passed.TheVariants.{Past, Stopped}
+use Rattle.tape.specs.declared.pass.Stopped.{Stopped}
 use Rattle.tape.specs.Record.{found_at}
 use Rattle.tape.specs.Walk.{passed}
 use Rattle.tape.specs.Laws.{UnknownKind}
@@ -20,9 +21,9 @@ use Rattle.rules.specs.declared.phase.Phase.TheVariants.{Giving}
 use Rattle.rules.specs.declared.event.Act.{Act}
 use Rattle.rules.specs.declared.event.Act.TheVariants.{Command, Give, Take, Online, Offline}
 use Rattle.rules.specs.declared.order.Order.{Order}
-use Rattle.rules.specs.declared.order.Order.TheVariants.{NoOrder, Select, Bot, Erase, Initialize, Write, WriteMark, Read, ReadMark, ReadStatus}
+use Rattle.rules.specs.declared.order.Order.TheVariants.{Select, Bot, Erase, Initialize, Write, WriteMark, Read, ReadMark, ReadStatus}
 use Rattle.rules.specs.declared.order.Fault.{Fault}
-use Rattle.rules.specs.declared.order.Fault.TheVariants.{Fine, Illegal, Empty, Plugged, Full}
+use Rattle.rules.specs.declared.order.Fault.TheVariants.{Illegal, Empty, Plugged, Full}
 use Rattle.rules.specs.Drive.{in_mode, passed_to}
 use Rattle.rules.specs.Order.{order_of}
 use Rattle.rules.specs.Edge.{is_block, halted, spoilt, standing}
@@ -57,55 +58,55 @@ by_record s a m d l t k f =
       pair = λ g h. k.pair (rw l g) h;
     }
 
-passes_tests : (s : Seat) (k : ℕ) (o : Order) → order_of k ≡ o → fault_of s o ≡ Fine → decided s k ≡ Fine
+passes_tests : (s : Seat) (k : ℕ) (o : Option Order) → order_of k ≡ o → fault_of s o ≡ Ok tt → decided s k ≡ Ok tt
 passes_tests s k o e h = sym (first_test_decides s k) ∙ ap (fault_of s) e ∙ h
 
-search_tells : (s : Seat) → fault_of s ReadMark ≡ Fine → (r : Passed) → passed s.tape s.drive.head ≡ r
+search_tells : (s : Seat) → fault_of s (Some ReadMark) ≡ Ok tt → (r : Result ℕ Stopped) → passed s.tape s.drive.head ≡ r
     → Tells s (Command 160) (leaves true (resting s) (standing r s.drive) s.tape)
-search_tells s h (Past at) q = as_was s _ _ refl refl
-search_tells s h (Stopped at w) q =
-    by_record s _ _ (passed_to at s.drive) refl refl
-    (halted_told s.tape (passed_to at s.drive) w (passed_stops s.tape s.drive.head 1 at w q))
-    (read_mark (passes_tests s 160 ReadMark orders.pass h) at w q)
+search_tells s h (Ok at) q = as_was s _ _ refl refl
+search_tells s h (Err x) q =
+    by_record s _ _ (passed_to x.at s.drive) refl refl
+    (halted_told s.tape (passed_to x.at s.drive) x.why (passed_stops s.tape s.drive.head 1 x.at x.why q))
+    (read_mark (passes_tests s 160 (Some ReadMark) orders.pass h) x.at x.why q)
 
-ordered_tells : (s : Seat) (c : ℕ) (o : Order) → order_of c ≡ o → fault_of s o ≡ Fine → Tells s (Command c) (ordered s o)
-ordered_tells s c NoOrder e h = as_was s _ _ refl refl
-ordered_tells s c (Select n) e h = as_was s _ _ refl refl
-ordered_tells s c Bot e h = as_was s _ _ refl refl
-ordered_tells s c Erase e h = as_was s _ _ refl refl
-ordered_tells s c Initialize e h = as_was s _ _ refl refl
-ordered_tells s c Write e h = as_was s _ _ refl refl
-ordered_tells s c WriteMark e h = as_was s _ _ refl refl
-ordered_tells s c Read e h =
+ordered_tells : (s : Seat) (c : ℕ) (o : Option Order) → order_of c ≡ o → fault_of s o ≡ Ok tt → Tells s (Command c) (ordered s o)
+ordered_tells s c None e h = as_was s _ _ refl refl
+ordered_tells s c (Some (Select n)) e h = as_was s _ _ refl refl
+ordered_tells s c (Some Bot) e h = as_was s _ _ refl refl
+ordered_tells s c (Some Erase) e h = as_was s _ _ refl refl
+ordered_tells s c (Some Initialize) e h = as_was s _ _ refl refl
+ordered_tells s c (Some Write) e h = as_was s _ _ refl refl
+ordered_tells s c (Some WriteMark) e h = as_was s _ _ refl refl
+ordered_tells s c (Some Read) e h =
     let d = in_mode Reading s.drive in
-    rw (read_code c e) (by_record s (Command 128) _ d refl refl (checked_told s.tape d) (read (passes_tests s 128 Read orders.read h)))
-ordered_tells s c ReadMark e h = rw (pass_code c e) (search_tells s h _ refl)
-ordered_tells s c ReadStatus e h =
+    rw (read_code c e) (by_record s (Command 128) _ d refl refl (checked_told s.tape d) (read (passes_tests s 128 (Some Read) orders.read h)))
+ordered_tells s c (Some ReadMark) e h = rw (pass_code c e) (search_tells s h _ refl)
+ordered_tells s c (Some ReadStatus) e h =
     record { ude = λ z. absurd (false≢true z); bnl = λ z. absurd (false≢true z); pair = λ _ z. absurd (false≢true z) }
 
-commanded_tells : (s : Seat) (c : ℕ) (f : Fault) → fault_of s (order_of c) ≡ f → Tells s (Command c) (commanded s (order_of c) f)
-commanded_tells s c Fine h = ordered_tells s c (order_of c) refl h
-commanded_tells s c Illegal h = as_was s _ _ refl refl
-commanded_tells s c Empty h = as_was s _ _ refl refl
-commanded_tells s c Plugged h = as_was s _ _ refl refl
-commanded_tells s c Full h = as_was s _ _ refl refl
+commanded_tells : (s : Seat) (c : ℕ) (f : Result (Unit {0}) Fault) → fault_of s (order_of c) ≡ f → Tells s (Command c) (commanded s (order_of c) f)
+commanded_tells s c (Ok u) h = ordered_tells s c (order_of c) refl h
+commanded_tells s c (Err Illegal) h = as_was s _ _ refl refl
+commanded_tells s c (Err Empty) h = as_was s _ _ refl refl
+commanded_tells s c (Err Plugged) h = as_was s _ _ refl refl
+commanded_tells s c (Err Full) h = as_was s _ _ refl refl
 
-inside_tells : (s : Seat) (n : ℕ) → s.port.phase ≡ Giving n → (f : Found) → found_at s.tape s.drive.head ≡ f → is_block f ≡ false
+inside_tells : (s : Seat) (n : ℕ) → s.port.phase ≡ Giving n → (f : Result Kind Why) → found_at s.tape s.drive.head ≡ f → is_block f ≡ false
     → Tells s Take (leaves true (resting s) (halted (spoilt f) s.drive) s.tape)
 inside_tells s n p f q b = go f q b
   where
-    no : (f : Found) → found_at s.tape s.drive.head ≡ f → is_block f ≡ false → GivesUde s Take
+    no : (f : Result Kind Why) → found_at s.tape s.drive.head ≡ f → is_block f ≡ false → GivesUde s Take
     no f q b = inside n p (λ k. true≢false (sym (ap is_block (sym q ∙ whole_found s.tape s.drive.head k)) ∙ b))
 
-    go : (f : Found) → found_at s.tape s.drive.head ≡ f → is_block f ≡ false
+    go : (f : Result Kind Why) → found_at s.tape s.drive.head ≡ f → is_block f ≡ false
         → Tells s Take (leaves true (resting s) (halted (spoilt f) s.drive) s.tape)
-    go Block q b = absurd (true≢false b)
-    go Mark q b = record { ude = λ _. given (no Mark q b); bnl = λ h. stood h; pair = λ _ _. refl }
-    go (Stop End) q b = record { ude = λ _. given (no (Stop End) q b); bnl = λ h. stood h; pair = λ _ _. refl }
-    go (Stop Unknown) q b =
-        let g = no (Stop Unknown) q b in
+    go (Ok Block) q b = absurd (true≢false b)
+    go (Ok Mark) q b = record { ude = λ _. given (no (Ok Mark) q b); bnl = λ h. stood h; pair = λ _ _. refl }
+    go (Err End) q b = record { ude = λ _. given (no (Err End) q b); bnl = λ h. stood h; pair = λ _ _. refl }
+    go (Err Unknown) q b =
+        let g = no (Err Unknown) q b in
         record { ude = λ _. given g; bnl = λ _. given (g, found_unknown s.tape s.drive.head q); pair = λ _ _. refl }
-    go (Stop Bad) q b = record { ude = λ _. given (no (Stop Bad) q b); bnl = λ h. stood h; pair = λ _ _. refl }
+    go (Err Bad) q b = record { ude = λ _. given (no (Err Bad) q b); bnl = λ h. stood h; pair = λ _ _. refl }
 
 take_tells : (g : List ℕ) (s : Seat) (m : Acted) → Acts.Does g s Take m → Tells s Take m
 take_tells g s m (Acts.hands_octet k e) = as_was s _ _ refl refl
@@ -141,20 +142,20 @@ does_tells g s Offline k = offline_tells g s _ k
 
 -- ---- where a rule gives UDE it stands, and BNL with it by the kind at the head
 
-no_block : (t : List ℕ) (h : ℕ) → (WholeBlock t h → ⊥) → (f : Found) → found_at t h ≡ f → is_block f ≡ false
-no_block t h n Block q = absurd (n (found_whole t h q))
-no_block t h n Mark q = refl
-no_block t h n (Stop w) q = refl
+no_block : (t : List ℕ) (h : ℕ) → (WholeBlock t h → ⊥) → (f : Result Kind Why) → found_at t h ≡ f → is_block f ≡ false
+no_block t h n (Ok Block) q = absurd (n (found_whole t h q))
+no_block t h n (Ok Mark) q = refl
+no_block t h n (Err w) q = refl
 
-order_gives : (s : Seat) (k : ℕ) (o : Order) → order_of k ≡ o → decided s k ≡ Fine → Gives (ordered s o).tape (ordered s o).moved.drive
+order_gives : (s : Seat) (k : ℕ) (o : Option Order) → order_of k ≡ o → decided s k ≡ Ok tt → Gives (ordered s o).tape (ordered s o).moved.drive
     → Gives (commanded s (order_of k) (fault_of s (order_of k))).tape (commanded s (order_of k) (fault_of s (order_of k))).moved.drive
 order_gives s k o e h g = rw (first_test_decides s k ∙ h, e) g
 
 pub act_gives : (g : List ℕ) (s : Seat) (a : Act) → GivesUde s a → Gives (act g s a).tape (act g s a).moved.drive
 unfolding pick handed
-act_gives g s a (read h b) = order_gives s 128 Read orders.read h (checked_gives s.tape (in_mode Reading s.drive) b).1
+act_gives g s a (read h b) = order_gives s 128 (Some Read) orders.read h (checked_gives s.tape (in_mode Reading s.drive) b).1
 act_gives g s a (read_mark h at w q b) =
-    order_gives s 160 ReadMark orders.pass h
+    order_gives s 160 (Some ReadMark) orders.pass h
     (rw q (halted_gives s.tape (passed_to at s.drive) w (passed_stops s.tape s.drive.head 1 at w q) b))
 act_gives g s a (first_byte p b) = let k = checked_gives s.tape s.drive b in rw (p, k.0) k.1
 act_gives g s a (inside n p b) =

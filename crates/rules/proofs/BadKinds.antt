@@ -5,13 +5,14 @@ use mathlib.Core.Bool.{true, false, true≢false, false≢true}
 use mathlib.Core.List.{List, [], ◌∷◌}
 use native.Mathlib.Omega.{arith}
 use lib.ListN.{length-replicate}
+use Rattle.std.specs.Prelude.{Option, None, Some}
 use Rattle.rules.specs.declared.drive.Drive.{Drive}
 use Rattle.rules.specs.declared.unit.Core.{Core}
 use Rattle.rules.specs.declared.event.Act.{Act}
 use Rattle.rules.specs.declared.event.What.{What}
 use Rattle.rules.specs.declared.event.What.TheVariants.{In, Out, Error, Underrun}
 use Rattle.rules.specs.declared.event.Event.{Event}
-use Rattle.rules.specs.declared.event.Event.TheVariants.{NoEvent, Reset, Named, Own}
+use Rattle.rules.specs.declared.event.Event.TheVariants.{Reset, Named, Own}
 use Rattle.rules.specs.declared.answer.Answer.{Answer}
 use Rattle.rules.specs.declared.answer.Answer.TheVariants.{Taken}
 use Rattle.rules.specs.Drive.{fresh_drive}
@@ -36,7 +37,7 @@ use Rattle.rules.proofs.Keeps.{staging_stays_whole}
 
 -- ---- of one event
 
-own_is : {a b : Act} → Own a ≡ Own b → a ≡ b
+own_is : {a b : Act} → Some (Own a) ≡ Some (Own b) → a ≡ b
 own_is e = cc
 
 befallen_same : (w : What) (d : Drive) → ((befallen w d).latched.ude ≡ d.latched.ude) × ((befallen w d).latched.bnl ≡ d.latched.bnl)
@@ -80,11 +81,11 @@ module _ (c : Core) (l : Lent) (event : List ℕ) where
   refused_told : (a : Answer) → (row_of a).refuses ≡ true → KindTold c l event (refused a c l)
   refused_told a r = untold (refused a c l) (λ y. true≢false (sym r ∙ y.taken)) (λ i _. stayed (refused a c l) i refl refl)
 
-  other_event : (e : Event) → event_of event ≡ e → ((a : Act) → e ≡ Own a → ⊥) → (x : Stepped) → ByUde c l event x → ⊥
+  other_event : (e : Option Event) → event_of event ≡ e → ((a : Act) → e ≡ Some (Own a) → ⊥) → (x : Stepped) → ByUde c l event x → ⊥
   other_event e q n x y = n y.act (sym q ∙ y.event_is)
 
-  slot_only : (j : ℕ) (w : What) (i : ℕ) → i ≤ 3 → j ≤ 3 → OnlyGiven c l event (effect_of c l (Named j w)) i
-  slot_only j w i r n = let s = go _ (named_drive c l j w i r n) in stayed (effect_of c l (Named j w)) i s.0 s.1
+  slot_only : (j : ℕ) (w : What) (i : ℕ) → i ≤ 3 → j ≤ 3 → OnlyGiven c l event (effect_of c l (Some (Named j w))) i
+  slot_only j w i r n = let s = go _ (named_drive c l j w i r n) in stayed (effect_of c l (Some (Named j w))) i s.0 s.1
     where
       go : (d : Drive) → Got i j (befallen w (drive_at c j)) (drive_at c i) d
           → (d.latched.ude ≡ (drive_at c i).latched.ude) × (d.latched.bnl ≡ (drive_at c i).latched.bnl)
@@ -94,9 +95,9 @@ module _ (c : Core) (l : Lent) (event : List ℕ) where
       go d (other n) = (refl, refl)
 
   -- what the selected drive does
-  module _ (a : Act) (q : event_of event ≡ Own a) (k : Sound c l) (h : refusal_in c (Own a) ≡ Taken) where
+  module _ (a : Act) (q : event_of event ≡ Some (Own a)) (k : Sound c l) (h : refusal_in c (Some (Own a)) ≡ Taken) where
     abbrev x : Stepped
-    x = effect_of c l (Own a)
+    x = effect_of c l (Some (Own a))
 
     abbrev m : Acted
     m = act (staged_in c a l).staging (seat_of c l) a
@@ -137,15 +138,15 @@ module _ (c : Core) (l : Lent) (event : List ℕ) where
           only = own_only;
         }
 
-  effect_told : (e : Event) → event_of event ≡ e → Sound c l → refusal_in c e ≡ Taken → KindTold c l event (effect_of c l e)
-  effect_told NoEvent q k h =
-      untold _ (other_event NoEvent q (λ a e. let z : ◌≡◌ {A = ℕ} 0 1 = cc in omega arith) _) (λ i _. stayed _ i refl refl)
-  effect_told Reset q k h =
-      untold _ (other_event Reset q (λ a e. let z : ◌≡◌ {A = ℕ} 0 1 = cc in omega arith) _) (λ i _. fell _ i (reset_neither c i))
-  effect_told (Named j w) q k h =
-      untold _ (other_event (Named j w) q (λ a e. let z : ◌≡◌ {A = ℕ} 0 1 = cc in omega arith) _)
+  effect_told : (e : Option Event) → event_of event ≡ e → Sound c l → refusal_in c e ≡ Taken → KindTold c l event (effect_of c l e)
+  effect_told None q k h =
+      untold _ (other_event None q (λ a e. let z : ◌≡◌ {A = ℕ} 0 1 = cc in omega arith) _) (λ i _. stayed _ i refl refl)
+  effect_told (Some Reset) q k h =
+      untold _ (other_event (Some Reset) q (λ a e. let z : ◌≡◌ {A = ℕ} 0 1 = cc in omega arith) _) (λ i _. fell _ i (reset_neither c i))
+  effect_told (Some (Named j w)) q k h =
+      untold _ (other_event (Some (Named j w)) q (λ a e. let z : ◌≡◌ {A = ℕ} 0 1 = cc in omega arith) _)
       (λ i r. slot_only j w i r (named_real event j w q))
-  effect_told (Own a) q k h = own_told a q k h
+  effect_told (Some (Own a)) q k h = own_told a q k h
 
 pub kinds_told : KindsTold
 kinds_told c l event w =

@@ -4,8 +4,9 @@ use mathlib.Core.Path.{◌≡◌, refl}
 use mathlib.Core.Bool.{Bool, true}
 use mathlib.Core.List.{List}
 use native.Mathlib.Omega.{arith}
-use Rattle.tape.specs.declared.found.Found.{Found}
-use Rattle.tape.specs.declared.found.Found.TheVariants.{Block, Mark, Stop}
+use Rattle.std.specs.Prelude.{Result, Ok, Err}
+use Rattle.tape.specs.declared.found.Kind.{Kind}
+use Rattle.tape.specs.declared.found.Kind.TheVariants.{Block, Mark}
 use Rattle.tape.specs.declared.found.Why.{Why}
 use Rattle.tape.specs.declared.found.Why.TheVariants.{End, Unknown, Bad}
 use Rattle.tape.specs.Record.{found_at}
@@ -15,31 +16,31 @@ use Rattle.rules.specs.declared.drive.Drive.{Drive}
 use Rattle.rules.specs.Edge.{halted, spoilt, edged, checked}
 use Rattle.rules.specs.Promises.BadKinds.{WholeBlock, BadRecord, unknown, runs_past, above, StoodOr, stood, given}
 
-pub whole_found : (t : List ℕ) (h : ℕ) → WholeBlock t h → found_at t h ≡ Block
-whole_found t h b = case_found t h Block (whole_block b.ends b.kind)
+pub whole_found : (t : List ℕ) (h : ℕ) → WholeBlock t h → found_at t h ≡ Ok Block
+whole_found t h b = case_found t h (Ok Block) (whole_block b.ends b.kind)
 
-pub found_whole : (t : List ℕ) (h : ℕ) → found_at t h ≡ Block → WholeBlock t h
-found_whole t h e = go (found_case t h Block e)
+pub found_whole : (t : List ℕ) (h : ℕ) → found_at t h ≡ Ok Block → WholeBlock t h
+found_whole t h e = go (found_case t h (Ok Block) e)
   where
-    go : Stands t h Block → WholeBlock t h
+    go : Stands t h (Ok Block) → WholeBlock t h
     go (whole_block b k) = record { kind = k; ends = b }
 
-found_bad : (t : List ℕ) (h : ℕ) → found_at t h ≡ Stop Bad → BadRecord t h
-found_bad t h e = go (found_case t h (Stop Bad) e)
+found_bad : (t : List ℕ) (h : ℕ) → found_at t h ≡ Err Bad → BadRecord t h
+found_bad t h e = go (found_case t h (Err Bad) e)
   where
-    go : Stands t h (Stop Bad) → BadRecord t h
+    go : Stands t h (Err Bad) → BadRecord t h
     go (cut_block b s k) = runs_past b k s
     go (off_tape b) = above b
 
 -- A bad record by what is found there.
 data Broken (t : List ℕ) (h : ℕ) : Type 0 where
-  by_kind : found_at t h ≡ Stop Unknown → Broken t h
-  otherwise : found_at t h ≡ Stop Bad → Broken t h
+  by_kind : found_at t h ≡ Err Unknown → Broken t h
+  otherwise : found_at t h ≡ Err Bad → Broken t h
 
 bad_found : (t : List ℕ) (h : ℕ) → BadRecord t h → Broken t h
 bad_found t h (unknown u) = by_kind (unknown_found t h u)
-bad_found t h (runs_past b k s) = otherwise (case_found t h (Stop Bad) (cut_block b s k))
-bad_found t h (above b) = otherwise (case_found t h (Stop Bad) (off_tape b))
+bad_found t h (runs_past b k s) = otherwise (case_found t h (Err Bad) (cut_block b s k))
+bad_found t h (above b) = otherwise (case_found t h (Err Bad) (off_tape b))
 
 -- ---- a bit that stands: what a drive is left with tells of the record at its head
 
@@ -53,17 +54,17 @@ pub record Told (t : List ℕ) (d e : Drive) : Type 0 where
   pub bnl : e.latched.bnl ≡ true → StoodOr d.latched.bnl (BadRecord t d.head × UnknownKind t e.head)
   pub pair : (d.latched.bnl ≡ true → d.latched.ude ≡ true) → e.latched.bnl ≡ true → e.latched.ude ≡ true
 
-pub halted_told : (t : List ℕ) (d : Drive) (w : Why) → found_at t d.head ≡ Stop w → Told t d (halted w d)
+pub halted_told : (t : List ℕ) (d : Drive) (w : Why) → found_at t d.head ≡ Err w → Told t d (halted w d)
 halted_told t d End q = record { ude = λ h. stood h; bnl = λ h. stood h; pair = λ f h. f h }
 halted_told t d Unknown q =
     let u = found_unknown t d.head q in
     record { ude = λ _. given (unknown u); bnl = λ _. given (unknown u, u); pair = λ _ _. refl }
 halted_told t d Bad q = record { ude = λ _. given (found_bad t d.head q); bnl = λ h. stood h; pair = λ _ _. refl }
 
-edged_told : (t : List ℕ) (d : Drive) (f : Found) → found_at t d.head ≡ f → Told t d (edged f d)
-edged_told t d Block q = record { ude = λ h. stood h; bnl = λ h. stood h; pair = λ f h. f h }
-edged_told t d Mark q = record { ude = λ h. stood h; bnl = λ h. stood h; pair = λ f h. f h }
-edged_told t d (Stop w) q = halted_told t d w q
+edged_told : (t : List ℕ) (d : Drive) (f : Result Kind Why) → found_at t d.head ≡ f → Told t d (edged f d)
+edged_told t d (Ok Block) q = record { ude = λ h. stood h; bnl = λ h. stood h; pair = λ f h. f h }
+edged_told t d (Ok Mark) q = record { ude = λ h. stood h; bnl = λ h. stood h; pair = λ f h. f h }
+edged_told t d (Err w) q = halted_told t d w q
 
 pub checked_told : (t : List ℕ) (d : Drive) → Told t d (checked t d).drive
 unfolding checked
@@ -75,7 +76,7 @@ pub record Gives (t : List ℕ) (e : Drive) : Type 0 where
   pub ude : e.latched.ude ≡ true
   pub bnl : UnknownKind t e.head → e.latched.bnl ≡ true
 
-pub halted_gives : (t : List ℕ) (d : Drive) (w : Why) → found_at t d.head ≡ Stop w → BadRecord t d.head → Gives t (halted w d)
+pub halted_gives : (t : List ℕ) (d : Drive) (w : Why) → found_at t d.head ≡ Err w → BadRecord t d.head → Gives t (halted w d)
 halted_gives t d End q b = absurd (go (bad_found t d.head b))
   where
     go : Broken t d.head → ⊥
@@ -92,9 +93,9 @@ broken_gives t d b (otherwise q) = rw q (refl, halted_gives t d Bad q b)
 pub checked_gives : (t : List ℕ) (d : Drive) → BadRecord t d.head → ((checked t d).raised ≡ true) × Gives t (checked t d).drive
 checked_gives t d b = broken_gives t d b (bad_found t d.head b)
 
-pub spoilt_gives : (t : List ℕ) (d : Drive) (f : Found) → found_at t d.head ≡ f → Gives t (halted (spoilt f) d)
-spoilt_gives t d Block q = record { ude = refl; bnl = λ u. let k = unknown_found t d.head u in cc }
-spoilt_gives t d Mark q = record { ude = refl; bnl = λ u. let k = unknown_found t d.head u in cc }
-spoilt_gives t d (Stop End) q = record { ude = refl; bnl = λ u. let k = unknown_found t d.head u in cc }
-spoilt_gives t d (Stop Unknown) q = record { ude = refl; bnl = λ _. refl }
-spoilt_gives t d (Stop Bad) q = record { ude = refl; bnl = λ u. let k = unknown_found t d.head u in cc }
+pub spoilt_gives : (t : List ℕ) (d : Drive) (f : Result Kind Why) → found_at t d.head ≡ f → Gives t (halted (spoilt f) d)
+spoilt_gives t d (Ok Block) q = record { ude = refl; bnl = λ u. let k = unknown_found t d.head u in cc }
+spoilt_gives t d (Ok Mark) q = record { ude = refl; bnl = λ u. let k = unknown_found t d.head u in cc }
+spoilt_gives t d (Err End) q = record { ude = refl; bnl = λ u. let k = unknown_found t d.head u in cc }
+spoilt_gives t d (Err Unknown) q = record { ude = refl; bnl = λ _. refl }
+spoilt_gives t d (Err Bad) q = record { ude = refl; bnl = λ u. let k = unknown_found t d.head u in cc }

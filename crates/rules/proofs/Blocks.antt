@@ -3,6 +3,8 @@ use Prim.Native.Nat.{ℕ, zero, suc, ◌+◌, ◌≤◌}
 use mathlib.Core.Path.{◌≡◌, refl, sym, ap, subst, ◌∙◌}
 use mathlib.Core.Bool.{Bool, true, false}
 use mathlib.Core.List.{List, [], ◌∷◌, ◌++◌}
+use Rattle.std.specs.Prelude.{Option, None, Some}
+use Rattle.std.specs.List.{cons_option}
 use native.Mathlib.Omega.{arith}
 use native.Mathlib.Nat.{zero-add, suc-add}
 use lib.ListN.{length, length-append}
@@ -46,10 +48,14 @@ pub only_append : {A : Type 0} (b : Bool) (x : A) (l m : List A) → only_if b x
 only_append true x l m = refl
 only_append false x l m = refl
 
+pub cons_append : {A : Type 0} (o : Option A) (l m : List A) → cons_option o (l ++ m) ≡ cons_option o l ++ m
+cons_append None l m = refl
+cons_append (Some x) l m = refl
+
 pub handed_append : (rs ss : List Turn) → handed_out (rs ++ ss) ≡ handed_out rs ++ handed_out ss
 handed_append [] ss = refl
 handed_append (r ∷ rs) ss =
-    ap (only_if r.given r.byte) (handed_append rs ss) ∙ only_append r.given r.byte (handed_out rs) (handed_out ss)
+    ap (cons_option r.byte) (handed_append rs ss) ∙ cons_append r.byte (handed_out rs) (handed_out ss)
 
 pub taken_append : (rs ss : List Turn) → AllTaken rs → AllTaken ss → AllTaken (rs ++ ss)
 taken_append [] ss p q = q

@@ -7,6 +7,7 @@ use native.Mathlib.Omega.{arith}
 use lib.Dec.{leb}
 use lib.ListN.{length, set, take, length-set}
 use borrow.Author.Tests.{not-true}
+use Rattle.std.specs.Prelude.{Result, Ok, Err, Option, None, Some}
 use Rattle.basis.specs.Choice.{pick}
 use Rattle.tape.specs.Record.{mark_record, block_record}
 use Rattle.tape.specs.Recording.{erased}
@@ -20,11 +21,11 @@ use Rattle.rules.specs.declared.phase.Phase.TheVariants.{Taking}
 use Rattle.rules.specs.declared.event.Act.{Act}
 use Rattle.rules.specs.declared.event.Act.TheVariants.{Command, Give, Offline}
 use Rattle.rules.specs.declared.event.Event.{Event}
-use Rattle.rules.specs.declared.event.Event.TheVariants.{NoEvent, Reset, Named, Own}
+use Rattle.rules.specs.declared.event.Event.TheVariants.{Reset, Named, Own}
 use Rattle.rules.specs.declared.order.Order.{Order}
 use Rattle.rules.specs.declared.order.Order.TheVariants.{Erase, WriteMark}
 use Rattle.rules.specs.declared.order.Fault.{Fault}
-use Rattle.rules.specs.declared.order.Fault.TheVariants.{Fine, Illegal, Empty, Plugged, Full}
+use Rattle.rules.specs.declared.order.Fault.TheVariants.{Illegal, Empty, Plugged, Full}
 use Rattle.rules.specs.declared.answer.Answer.{Answer}
 use Rattle.rules.specs.declared.answer.Answer.TheVariants.{Taken, Raised}
 use Rattle.rules.specs.Drive.{is_writing, writes, stopping}
@@ -65,23 +66,23 @@ module _ (c : Core) (l : Lent) (event : List ℕ) where
   abbrev Told : (Stepped → Type 0) → Stepped → Type 0
   Told P s = s.turn.answer ≡ answer_to c l event → P s
 
-  own_change : (a : Act) (m : Acted) → event_of event ≡ Own a → answer_to c l event ≡ pick m.moved.raised Raised Taken → (t' : List ℕ)
+  own_change : (a : Act) (m : Acted) → event_of event ≡ Some (Own a) → answer_to c l event ≡ pick m.moved.raised Raised Taken → (t' : List ℕ)
       → Leaves.Changes (staged_in c a l).staging (seat_of c l) a m t' → Change c l event t'
   own_change a m q h t' Leaves.kept = unchanged
-  own_change a m q h t' (Leaves.erases e n) = erased_whole (record { order = q ∙ ap Own e; answer = h ∙ quiet_answer _ n })
-  own_change a m q h t' (Leaves.marks e n r) = mark_made (record { order = q ∙ ap Own e; answer = h ∙ quiet_answer _ n }) r
+  own_change a m q h t' (Leaves.erases e n) = erased_whole (record { order = q ∙ ap (λ (x : Act). Some (Own x)) e; answer = h ∙ quiet_answer _ n })
+  own_change a m q h t' (Leaves.marks e n r) = mark_made (record { order = q ∙ ap (λ (x : Act). Some (Own x)) e; answer = h ∙ quiet_answer _ n }) r
   own_change a m q h t' (Leaves.leaves_mark e u w n r) =
-      mark_left (record { line = q ∙ ap Own e; up = u; writing = w; answer = h ∙ quiet_answer _ n }) r
+      mark_left (record { line = q ∙ ap (λ (x : Act). Some (Own x)) e; up = u; writing = w; answer = h ∙ quiet_answer _ n }) r
   own_change a m q h t' (Leaves.blocks b e p r) =
       rw (last_staged c l a b e p)
-      (block_made b (record { given = record { byte = q ∙ ap Own e; place = p; taken = rw h (taken_not_refused m.moved.raised) }; room = r }))
+      (block_made b (record { given = record { byte = q ∙ ap (λ (x : Act). Some (Own x)) e; place = p; taken = rw h (taken_not_refused m.moved.raised) }; room = r }))
 
-  effect_change : (e : Event) → event_of event ≡ e → Sound c l → refusal_in c e ≡ Taken
+  effect_change : (e : Option Event) → event_of event ≡ e → Sound c l → refusal_in c e ≡ Taken
       → Told (λ s. Change c l event (tape_at s.lent c.port.selected)) (effect_of c l e)
-  effect_change NoEvent q k h z = unchanged
-  effect_change Reset q k h z = unchanged
-  effect_change (Named j x) q k h z = unchanged
-  effect_change (Own a) q k h z =
+  effect_change None q k h z = unchanged
+  effect_change (Some Reset) q k h z = unchanged
+  effect_change (Some (Named j x)) q k h z = unchanged
+  effect_change (Some (Own a)) q k h z =
       rw put_same (own_change a _ q (sym z) _ (Leaves.does_leaf (staged_in c a l).staging (seat_of c l) a _ (own_does c l a k h)).change)
 
 pub one_change : OneChange
@@ -92,14 +93,14 @@ one_change c l event w =
 -- ---- and where there is that reason, it does happen
 
 -- an order that raises nothing passed the tests, and is carried out
-pub carried_out : (s : Seat) (o : Order) (f : Fault) → (commanded s o f).moved.raised ≡ false → commanded s o f ≡ ordered s o
-carried_out s o Fine h = refl
-carried_out s o Illegal h = absurd (true≢false h)
-carried_out s o Empty h = absurd (true≢false h)
-carried_out s o Plugged h = absurd (true≢false h)
-carried_out s o Full h = absurd (true≢false h)
+pub carried_out : (s : Seat) (o : Option Order) (f : Result (Unit {0}) Fault) → (commanded s o f).moved.raised ≡ false → commanded s o f ≡ ordered s o
+carried_out s o (Ok u) h = refl
+carried_out s o (Err Illegal) h = absurd (true≢false h)
+carried_out s o (Err Empty) h = absurd (true≢false h)
+carried_out s o (Err Plugged) h = absurd (true≢false h)
+carried_out s o (Err Full) h = absurd (true≢false h)
 
-tape_there : (s : Seat) (o : Order) (f : Fault) → (commanded s o f).moved.raised ≡ false → (commanded s o f).tape ≡ (ordered s o).tape
+tape_there : (s : Seat) (o : Option Order) (f : Result (Unit {0}) Fault) → (commanded s o f).moved.raised ≡ false → (commanded s o f).tape ≡ (ordered s o).tape
 tape_there s o f h = ap (λ (m : Acted). m.tape) (carried_out s o f h)
 
 -- a line that falls while the drive is Writing leaves a mark, or raises EXCEPTION
@@ -143,17 +144,17 @@ module _ (c : Core) (l : Lent) (event : List ℕ) where
       let p = both (is_writing d.mode) (not d.exception) h in (writing_is d.mode p.0, not-true d.exception p.1)
 
   -- an act that raised nothing is answered 0, so one that is answered 0 raised nothing
-  own_happens : (a : Act) → event_of event ≡ Own a → Sound c l
+  own_happens : (a : Act) → event_of event ≡ Some (Own a) → Sound c l
       → answer_to c l event ≡ pick (act (staged a) (seat_of c l) a).moved.raised Raised Taken
       → Happens c l event (act (staged a) (seat_of c l) a).tape
   own_happens a q k h =
       record {
         erases = λ r.
             subst (λ (x : Act). (act (staged x) s x).moved.raised ≡ false → (act (staged x) s x).tape ≡ erased s.tape)
-            (own_is (Command 34) a (sym r.order ∙ q)) (rw orders.erase (tape_there s Erase (fault_of s Erase))) (silent r.answer);
+            (own_is (Command 34) a (sym r.order ∙ q)) (rw orders.erase (tape_there s (Some Erase) (fault_of s (Some Erase)))) (silent r.answer);
         marks = λ r.
             subst (λ (x : Act). (act (staged x) s x).moved.raised ≡ false → (act (staged x) s x).tape ≡ with_mark s.drive s.tape)
-            (own_is (Command 96) a (sym r.order ∙ q)) (rw orders.mark (tape_there s WriteMark (fault_of s WriteMark))) (silent r.answer);
+            (own_is (Command 96) a (sym r.order ∙ q)) (rw orders.mark (tape_there s (Some WriteMark) (fault_of s (Some WriteMark)))) (silent r.answer);
         leaves_mark = λ r.
             let w = writing_parts s.drive r.writing in
             let i = has_cartridge s.drive.mode s.drive.loaded s.drive.protected (k.fit c.port.selected).mode w.0 in
@@ -186,7 +187,7 @@ module _ (c : Core) (l : Lent) (event : List ℕ) where
       no : {A : Type 0} → answer_to c l event ≡ Taken → A
       no e = absurd (true≢false (sym r ∙ ap (λ (y : Answer). (row_of y).refuses) (z ∙ e)))
 
-  unasked_happens : (e : Event) → event_of event ≡ e → is_own e ≡ false → (t : List ℕ) → Happens c l event t
+  unasked_happens : (e : Option Event) → event_of event ≡ e → is_own e ≡ false → (t : List ℕ) → Happens c l event t
   unasked_happens e q n t =
       record {
         erases = λ x. not_own event e q n x.order;
@@ -195,12 +196,12 @@ module _ (c : Core) (l : Lent) (event : List ℕ) where
         blocks = λ b x. not_own event e q n x.given.byte;
       }
 
-  effect_happens : (e : Event) → event_of event ≡ e → Sound c l → refusal_in c e ≡ Taken
+  effect_happens : (e : Option Event) → event_of event ≡ e → Sound c l → refusal_in c e ≡ Taken
       → Told c l event (λ s. Happens c l event (tape_at s.lent c.port.selected)) (effect_of c l e)
-  effect_happens NoEvent q k h z = unasked_happens NoEvent q refl _
-  effect_happens Reset q k h z = unasked_happens Reset q refl _
-  effect_happens (Named j x) q k h z = unasked_happens (Named j x) q refl _
-  effect_happens (Own a) q k h z = rw put_same (own_happens a q k (sym z))
+  effect_happens None q k h z = unasked_happens None q refl _
+  effect_happens (Some Reset) q k h z = unasked_happens (Some Reset) q refl _
+  effect_happens (Some (Named j x)) q k h z = unasked_happens (Some (Named j x)) q refl _
+  effect_happens (Some (Own a)) q k h z = rw put_same (own_happens a q k (sym z))
 
 pub recording_happens : RecordingHappens
 recording_happens c l event w =
@@ -218,8 +219,8 @@ tape_kept c l a m k e n t (Leaves.marks q h r) = absurd (n (quiet_answer _ h))
 tape_kept c l a m k e n t (Leaves.leaves_mark q u w h r) = absurd (n (quiet_answer _ h))
 tape_kept c l a m k e n t (Leaves.blocks b q p r) = let z : Command k ≡ Give b = sym e ∙ q in cc
 
-effect_keeps : (c : Core) (l : Lent) (event : List ℕ) (k : ℕ) → event_of event ≡ Own (Command k) → Sound c l → refusal_in c (Own (Command k)) ≡ Taken
-    → ((effect_of c l (Own (Command k))).turn.answer ≡ Taken → ⊥) → (effect_of c l (Own (Command k))).lent ≡ l
+effect_keeps : (c : Core) (l : Lent) (event : List ℕ) (k : ℕ) → event_of event ≡ Some (Own (Command k)) → Sound c l → refusal_in c (Some (Own (Command k))) ≡ Taken
+    → ((effect_of c l (Some (Own (Command k)))).turn.answer ≡ Taken → ⊥) → (effect_of c l (Some (Own (Command k)))).lent ≡ l
 effect_keeps c l event k q s h n =
     let m = act (staged_in c (Command k) l).staging (seat_of c l) (Command k) in
     let t = tape_kept c l (Command k) m k refl n m.tape
@@ -229,7 +230,7 @@ effect_keeps c l event k q s h n =
 pub only_accepted_orders : OnlyAcceptedOrders
 only_accepted_orders c l event k w q =
     sound_step (λ s. (s.turn.answer ≡ Taken → ⊥) → s.lent ≡ l) c l event w (λ _ _. refl)
-    (λ s. subst (λ (e : Event). refusal_in c e ≡ Taken → ((effect_of c l e).turn.answer ≡ Taken → ⊥) → (effect_of c l e).lent ≡ l) (sym q)
+    (λ s. subst (λ (e : Option Event). refusal_in c e ≡ Taken → ((effect_of c l e).turn.answer ≡ Taken → ⊥) → (effect_of c l e).lent ≡ l) (sym q)
     (effect_keeps c l event k q s))
 
 -- ---- what a recording leaves

@@ -3,7 +3,7 @@ use Prim.Native.Nat.{ℕ, ◌≤◌}
 use mathlib.Core.Path.{◌≡◌, refl, sym, ap, ap₂, subst, ◌∙◌}
 use mathlib.Core.Bool.{Bool, true, false, ◌&&◌, ◌||◌, true≢false, false≢true}
 use mathlib.Core.List.{List, [], ◌∷◌, ◌++◌}
-use mathlib.Core.Option.{Option, none, some}
+use Rattle.std.specs.Prelude.{Option, None, Some}
 use lib.Dec.{eqb}
 use lib.ListN.{take, length-replicate}
 use Rattle.basis.specs.Choice.{pick}
@@ -13,7 +13,7 @@ use Rattle.rules.specs.declared.answer.Answer.{Answer}
 use Rattle.rules.specs.declared.event.Act.{Act}
 use Rattle.rules.specs.declared.event.Act.TheVariants.{Command, Give, Take, Online, Offline}
 use Rattle.rules.specs.declared.event.Event.{Event}
-use Rattle.rules.specs.declared.event.Event.TheVariants.{NoEvent, Reset, Named, Own}
+use Rattle.rules.specs.declared.event.Event.TheVariants.{Reset, Named, Own}
 use Rattle.rules.specs.Unit.{drive_at, tape_at, fresh_core}
 use Rattle.rules.specs.Event.{event_of}
 use Rattle.rules.specs.Refusal.{short, refusal_in}
@@ -101,12 +101,12 @@ strong r d w e h = go (event_of e) h
     x : Answer
     x = (turn_of w e).answer
 
-    go : (v : Event) → reaches_by r d w.core.port.selected w.core.port.online (turn_of w e).answer v ≡ false
+    go : (v : Option Event) → reaches_by r d w.core.port.selected w.core.port.online (turn_of w e).answer v ≡ false
         → reaches_by real_change d w.core.port.selected w.core.port.online (turn_of w e).answer v ≡ false
-    go NoEvent h = h
-    go Reset h = h
-    go (Named i x) h = h
-    go (Own a) h =
+    go None h = h
+    go (Some Reset) h = h
+    go (Some (Named i x)) h = h
+    go (Some (Own a)) h =
         fewer (eqb w.core.port.selected d) (answered x) (changes r a w.core.port.online) (changes real_change a w.core.port.online)
         (accepted x && selects d a) (real_counts r a w.core.port.online) h
 
@@ -160,10 +160,10 @@ pending_look d w k = rw (here_same d w.core.port) (go (eqb w.core.port.selected 
     of : Phase → List ℕ → List ℕ → Pending
     of ph g o = record { phase = ph; part = take (given_before ph) g; octets = octets_in ph o }
 
-    go : (b : Bool) → eqb w.core.port.selected d ≡ b → pick b (some (held w)) none ≡ pick b (some (held (look d w))) none
+    go : (b : Bool) → eqb w.core.port.selected d ≡ b → pick b (Some (held w)) None ≡ pick b (Some (held (look d w))) None
     go true e =
         let ph = w.core.port.phase in
-        ap some
+        ap Some
         (ap₂ (λ (g : List ℕ) (o : List ℕ). record { phase = ph; part = g; octets = o })
         (given_seen ph w.lent.staging (place_below ph _ k.phase) k.whole) (sym (octets_twice ph w.core.port.octets))
         ∙ ap₂ (λ (q : Port) (g : List ℕ). of q.phase g q.octets) (sym (seen_here d w.core.port e))

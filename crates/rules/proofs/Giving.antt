@@ -9,6 +9,7 @@ use lib.Dec.{ltb}
 use lib.ListN.{length, set, take, length-set}
 use lib.Seq.{take_all, take-suc-set}
 use borrow.Author.Tests.{lt-ltb}
+use Rattle.std.specs.Prelude.{Some}
 use Rattle.basis.specs.Choice.{pick}
 use Rattle.basis.proofs.Choosing.{choice_holds}
 use Rattle.rules.specs.declared.drive.Drive.{Drive}
@@ -42,7 +43,7 @@ pub may_give : (n : ℕ) (d : Drive) (b : ℕ) → writes d ≡ true → in_step
 may_give zero d b h = h
 may_give (suc n) d b h = h
 
-pub give_event : (b : ℕ) → event_of (2 ∷ b ∷ []) ≡ Own (Give b)
+pub give_event : (b : ℕ) → event_of (2 ∷ b ∷ []) ≡ Some (Own (Give b))
 unfolding event_of bodied_event pick
 give_event b = refl
 

@@ -8,12 +8,12 @@ use lib.Dec.{leb}
 use lib.ListN.{length, length-replicate}
 use borrow.Author.Tests.{leb-true, leb-false, le-leb}
 use Rattle.basis.specs.Choice.{pick}
-use Rattle.tape.specs.declared.found.Found.{Found}
-use Rattle.tape.specs.declared.found.Found.TheVariants.{Block, Mark, Stop}
+use Rattle.std.specs.Prelude.{Result, Ok, Err}
+use Rattle.tape.specs.declared.found.Kind.{Kind}
+use Rattle.tape.specs.declared.found.Kind.TheVariants.{Block, Mark}
 use Rattle.tape.specs.declared.found.Why.{Why}
 use Rattle.tape.specs.declared.found.Why.TheVariants.{End, Unknown, Bad}
-use Rattle.tape.specs.declared.pass.Passed.{Passed}
-use Rattle.tape.specs.declared.pass.Passed.TheVariants.{Past, Stopped}
+use Rattle.tape.specs.declared.pass.Stopped.{Stopped}
 use Rattle.tape.specs.Record.{found_at, mark_record, block_record, longest}
 use Rattle.tape.specs.Recording.{recorded}
 use Rattle.tape.specs.Walk.{passed, end_of}
@@ -69,18 +69,18 @@ halted_fit End d f = let i = fit_idle d f in record { near = i.near; mode = i.mo
 halted_fit Unknown d f = let i = fit_idle d f in record { near = i.near; mode = i.mode; late = i.late }
 halted_fit Bad d f = let i = fit_idle d f in record { near = i.near; mode = i.mode; late = i.late }
 
-edged_fit : (t : List ℕ) (d : Drive) → length t ≤ longest → Fit d → (e : Found) → found_at t d.head ≡ e → Fit (edged e d)
-edged_fit t d l f Block q = f
-edged_fit t d l f Mark q = fit_stop Fil (passed_to (d.head + 1) d) (fit_head d (d.head + 1) f (omega (arith, mark_fits t d.head q)))
-edged_fit t d l f (Stop w) q = halted_fit w d f
+edged_fit : (t : List ℕ) (d : Drive) → length t ≤ longest → Fit d → (e : Result Kind Why) → found_at t d.head ≡ e → Fit (edged e d)
+edged_fit t d l f (Ok Block) q = f
+edged_fit t d l f (Ok Mark) q = fit_stop Fil (passed_to (d.head + 1) d) (fit_head d (d.head + 1) f (omega (arith, mark_fits t d.head q)))
+edged_fit t d l f (Err w) q = halted_fit w d f
 
 checked_fit : (t : List ℕ) (d : Drive) → length t ≤ longest → Fit d → Fit (checked t d).drive
 unfolding checked
 checked_fit t d l f = edged_fit t d l f _ refl
 
-standing_fit : (r : Passed) (d : Drive) → Fit d → end_of r ≤ longest → Fit (standing r d)
-standing_fit (Past at) d f l = fit_stop Fil (passed_to at d) (fit_head d at f l)
-standing_fit (Stopped at w) d f l = halted_fit w (passed_to at d) (fit_head d at f l)
+standing_fit : (r : Result ℕ Stopped) (d : Drive) → Fit d → end_of r ≤ longest → Fit (standing r d)
+standing_fit (Ok at) d f l = fit_stop Fil (passed_to at d) (fit_head d at f l)
+standing_fit (Err s) d f l = halted_fit s.why (passed_to s.at d) (fit_head d s.at f l)
 
 -- ---- the phase still goes with the mode
 

@@ -6,7 +6,8 @@ use mathlib.Core.List.{List, [], ◌∷◌, ◌++◌, append-nil}
 use native.Mathlib.Omega.{arith}
 use lib.ListN.{length}
 use Rattle.basis.specs.Choice.{pick}
-use Rattle.tape.specs.declared.found.Found.TheVariants.{Block, Mark}
+use Rattle.std.specs.Prelude.{Ok}
+use Rattle.tape.specs.declared.found.Kind.TheVariants.{Block, Mark}
 use Rattle.tape.specs.Record.{found_at, mark_record, block_record}
 use Rattle.tape.specs.Held.{Holds}
 use Rattle.tape.proofs.Holding.{holds_parts, held_block, held_mark}
@@ -35,11 +36,11 @@ record Read (p : Port) (d : Drive) (t g : List ℕ) (bs : List (List ℕ)) (w : 
   bytes : handed_out (turns w (taken_times n)) ≡ joined bs
   answers : RaisedLast (turns w (taken_times n))
 
-at_block : (t : List ℕ) (d : Drive) → found_at t d.head ≡ Block → checked t d ≡ record { raised = false; drive = d }
+at_block : (t : List ℕ) (d : Drive) → found_at t d.head ≡ Ok Block → checked t d ≡ record { raised = false; drive = d }
 unfolding checked
 at_block t d e = rw e
 
-at_mark : (t : List ℕ) (d : Drive) → found_at t d.head ≡ Mark → checked t d ≡ record { raised = true; drive = stopping Fil (passed_to (d.head + 1) d) }
+at_mark : (t : List ℕ) (d : Drive) → found_at t d.head ≡ Ok Mark → checked t d ≡ record { raised = true; drive = stopping Fil (passed_to (d.head + 1) d) }
 unfolding checked
 at_mark t d e = rw e
 
@@ -104,7 +105,7 @@ strike_handed_out w [] a r h =
     let d = drive_of w in
     let m = read_at_mark p d (tape_of w) w w.lent.staging (here_at_rest w r.works r.rest) (ready_fit w r) (held_mark (tape_of w) d.head h) in
     record {
-      bytes = rw m.given;
+      bytes = rw m.byte;
       answers = last m.answer;
       drive = ap (λ (s : Seat). s.drive) m.next.seat;
       tape = ap (λ (s : Seat). s.tape) m.next.seat;
@@ -119,7 +120,7 @@ strike_handed_out w (b ∷ bs) a r h =
     let may : reads (in_mode Reading d) ≡ true = rw f.calm in
     let out = read p bs b (in_mode Reading d) t w.lent.staging (after w (1 ∷ 128 ∷ [])) a may h m.next in
     record {
-      bytes = rw m.given out.bytes;
+      bytes = rw m.byte out.bytes;
       answers = then m.answer out.answers;
       drive = ap (λ (s : Seat). s.drive) out.next.seat;
       tape = ap (λ (s : Seat). s.tape) out.next.seat;

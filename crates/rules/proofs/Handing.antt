@@ -3,6 +3,7 @@ use Prim.Native.Nat.{ℕ, zero, suc, ◌+◌, ◌<◌}
 use mathlib.Core.Path.{◌≡◌, refl, sym, ap, subst, ◌∙◌}
 use mathlib.Core.Bool.{true, false}
 use mathlib.Core.List.{List, [], ◌∷◌, ◌++◌}
+use Rattle.std.specs.Prelude.{Some}
 use native.Mathlib.Omega.{arith}
 use native.Mathlib.Nat.{add-zero}
 use native.Mathlib.Numerals.{add-one}
@@ -10,9 +11,11 @@ use lib.Dec.{ltb}
 use lib.ListN.{length, get_or, drop, take-append-drop}
 use lib.Seq.{drop-drop, get_or-drop}
 use borrow.Author.Tests.{lt-ltb}
+use Rattle.std.specs.Prelude.{Some}
 use Rattle.basis.specs.Choice.{pick}
 use Rattle.basis.proofs.Choosing.{choice_holds}
-use Rattle.tape.specs.declared.found.Found.TheVariants.{Block}
+use Rattle.std.specs.Prelude.{Ok}
+use Rattle.tape.specs.declared.found.Kind.TheVariants.{Block}
 use Rattle.tape.specs.Record.{block_record, found_at}
 use Rattle.tape.specs.Held.{Holds}
 use Rattle.rules.specs.declared.drive.Drive.{Drive}
@@ -43,11 +46,11 @@ pub may_take : (n : ℕ) (d : Drive) → reads d ≡ true → in_step_at (taken_
 may_take zero d h = h
 may_take (suc n) d h = refl
 
-pub take_event : event_of (3 ∷ []) ≡ Own Take
+pub take_event : event_of (3 ∷ []) ≡ Some (Own Take)
 unfolding event_of bare_event pick
 take_event = refl
 
-pub taken_is : (s : Seat) (n : ℕ) → found_at s.tape s.drive.head ≡ Block → byte_taken s (taken_at n) ≡ handed s n
+pub taken_is : (s : Seat) (n : ℕ) → found_at s.tape s.drive.head ≡ Ok Block → byte_taken s (taken_at n) ≡ handed s n
 unfolding pick checked
 taken_is s zero f = rw f
 taken_is s (suc n) f = rw f
@@ -61,8 +64,8 @@ part_handed : (s : Seat) (n : ℕ) → n < 511
 unfolding pick handed
 part_handed s n l = rw (lt-ltb n 511 l, add-one n)
 
-handed_on : (r : Turn) (rs : List Turn) (b : ℕ) (bs : List ℕ) → r.given ≡ true → r.byte ≡ b → handed_out rs ≡ bs → handed_out (r ∷ rs) ≡ b ∷ bs
-handed_on r rs b bs g e h = rw (g, e, h)
+handed_on : (r : Turn) (rs : List Turn) (b : ℕ) (bs : List ℕ) → r.byte ≡ Some b → handed_out rs ≡ bs → handed_out (r ∷ rs) ≡ b ∷ bs
+handed_on r rs b bs e h = rw (e, h)
 
 -- the byte that stands there, and what stands behind it
 byte_there : (t more bs : List ℕ) (k b : ℕ) → drop k t ≡ (b ∷ bs) ++ more → get_or t k 0 ≡ b
@@ -71,7 +74,7 @@ byte_there t more bs k b e = ap (λ (m : ℕ). get_or t m 0) (sym (add-zero k)) 
 rest_there : (t more bs : List ℕ) (k b : ℕ) → drop k t ≡ (b ∷ bs) ++ more → drop (k + 1) t ≡ bs ++ more
 rest_there t more bs k b e = sym (drop-drop 1 k t) ∙ ap (drop 1) e
 
-module _ (p : Port) (d : Drive) (t g : List ℕ) (may : reads d ≡ true) (whole : found_at t d.head ≡ Block) where
+module _ (p : Port) (d : Drive) (t g : List ℕ) (may : reads d ≡ true) (whole : found_at t d.head ≡ Ok Block) where
   abbrev seat_at : ℕ → Seat
   seat_at n = seat (at_phase (taken_at n) p) d t
 
@@ -107,7 +110,7 @@ module _ (p : Port) (d : Drive) (t g : List ℕ) (may : reads d ≡ true) (whole
       let byte : get_or t (d.head + 512) 0 ≡ b = ap (λ (x : ℕ). get_or t x 0) (sym at) ∙ byte_there t more [] (d.head + 1 + n) b q in
       record {
         next = m.next;
-        bytes = handed_on (turn_of w (3 ∷ [])) [] b [] m.given (m.byte ∙ byte) refl;
+        bytes = handed_on (turn_of w (3 ∷ [])) [] b [] (m.byte ∙ ap Some byte) refl;
         quiet = λ r. (m.answer ∙ rw r, tt);
         raised = λ r. last (m.answer ∙ rw r);
       }
@@ -121,14 +124,14 @@ module _ (p : Port) (d : Drive) (t g : List ℕ) (may : reads d ≡ true) (whole
       record {
         next = r.next;
         bytes =
-            handed_on (turn_of w (3 ∷ [])) (turns (after w (3 ∷ [])) (taken_times (length (b' ∷ bs)))) b (b' ∷ bs) m.given
-            (m.byte ∙ byte_there t more (b' ∷ bs) (d.head + 1 + n) b q) r.bytes;
+            handed_on (turn_of w (3 ∷ [])) (turns (after w (3 ∷ [])) (taken_times (length (b' ∷ bs)))) b (b' ∷ bs)
+            (m.byte ∙ ap Some (byte_there t more (b' ∷ bs) (d.head + 1 + n) b q)) r.bytes;
         quiet = λ x. (m.answer, r.quiet x);
         raised = λ x. then m.answer (r.raised x);
       }
 
 -- a whole block that stands at the head, taken from Rest on
-pub block_handed : (p : Port) (d : Drive) (t g : List ℕ) (may : reads d ≡ true) (whole : found_at t d.head ≡ Block) (w : World) (body : List ℕ)
+pub block_handed : (p : Port) (d : Drive) (t g : List ℕ) (may : reads d ≡ true) (whole : found_at t d.head ≡ Ok Block) (w : World) (body : List ℕ)
     → length body ≡ 512 → Holds t d.head (block_record body) → Sits w g (seat (at_phase Rest p) d t) → Handed p d t g may whole w body
 block_handed p d t g may whole w [] e h k = absurd (omega (arith, e))
 block_handed p d t g may whole w (b ∷ bs) e h k =

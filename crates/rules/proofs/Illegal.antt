@@ -5,13 +5,14 @@ use mathlib.Core.Bool.{Bool, true, false, false≢true}
 use mathlib.Core.List.{List}
 use native.Mathlib.Omega.{arith}
 use lib.ListN.{length}
+use Rattle.std.specs.Prelude.{Result, Ok, Err, Some, Option, None}
 use Rattle.basis.specs.Choice.{pick}
-use Rattle.tape.specs.declared.found.Found.{Found}
-use Rattle.tape.specs.declared.found.Found.TheVariants.{Block, Mark, Stop}
+use Rattle.std.specs.Prelude.{Result, Ok, Err}
+use Rattle.tape.specs.declared.found.Kind.{Kind}
+use Rattle.tape.specs.declared.found.Kind.TheVariants.{Block, Mark}
 use Rattle.tape.specs.declared.found.Why.{Why}
 use Rattle.tape.specs.declared.found.Why.TheVariants.{End, Unknown, Bad}
-use Rattle.tape.specs.declared.pass.Passed.{Passed}
-use Rattle.tape.specs.declared.pass.Passed.TheVariants.{Past, Stopped}
+use Rattle.tape.specs.declared.pass.Stopped.{Stopped}
 use Rattle.tape.specs.Record.{found_at}
 use Rattle.tape.specs.Walk.{passed}
 use Rattle.rules.specs.declared.drive.Drive.{Drive}
@@ -23,9 +24,9 @@ use Rattle.rules.specs.declared.unit.Core.{Core}
 use Rattle.rules.specs.declared.event.Act.TheVariants.{Command}
 use Rattle.rules.specs.declared.event.Event.TheVariants.{Own}
 use Rattle.rules.specs.declared.order.Order.{Order}
-use Rattle.rules.specs.declared.order.Order.TheVariants.{NoOrder, Select, Bot, Erase, Initialize, Write, WriteMark, Read, ReadMark, ReadStatus}
+use Rattle.rules.specs.declared.order.Order.TheVariants.{Select, Bot, Erase, Initialize, Write, WriteMark, Read, ReadMark, ReadStatus}
 use Rattle.rules.specs.declared.order.Fault.{Fault}
-use Rattle.rules.specs.declared.order.Fault.TheVariants.{Fine, Illegal, Empty, Plugged, Full}
+use Rattle.rules.specs.declared.order.Fault.TheVariants.{Illegal, Empty, Plugged, Full}
 use Rattle.rules.specs.Drive.{latching, in_mode, passed_to}
 use Rattle.rules.specs.Unit.{Lent, drive_at, put_drive, at_phase}
 use Rattle.rules.specs.Order.{order_of}
@@ -45,51 +46,51 @@ halted_ill End d = refl
 halted_ill Unknown d = refl
 halted_ill Bad d = refl
 
-edged_ill : (f : Found) (d : Drive) → (edged f d).latched.ill ≡ d.latched.ill
-edged_ill Block d = refl
-edged_ill Mark d = refl
-edged_ill (Stop w) d = halted_ill w d
+edged_ill : (f : Result Kind Why) (d : Drive) → (edged f d).latched.ill ≡ d.latched.ill
+edged_ill (Ok Block) d = refl
+edged_ill (Ok Mark) d = refl
+edged_ill (Err w) d = halted_ill w d
 
 checked_ill : (t : List ℕ) (d : Drive) → (checked t d).drive.latched.ill ≡ d.latched.ill
 unfolding checked
 checked_ill t d = edged_ill (found_at t d.head) d
 
-standing_ill : (r : Passed) (d : Drive) → (standing r d).latched.ill ≡ d.latched.ill
-standing_ill (Past at) d = refl
-standing_ill (Stopped at w) d = halted_ill w (passed_to at d)
+standing_ill : (r : Result ℕ Stopped) (d : Drive) → (standing r d).latched.ill ≡ d.latched.ill
+standing_ill (Ok at) d = refl
+standing_ill (Err s) d = halted_ill s.why (passed_to s.at d)
 
-ordered_ill : (s : Seat) (o : Order) → (ordered s o).moved.drive.latched.ill ≡ true → s.drive.latched.ill ≡ true
-ordered_ill s NoOrder h = h
-ordered_ill s (Select n) h = h
-ordered_ill s Bot h = h
-ordered_ill s Erase h = h
-ordered_ill s Initialize h = h
-ordered_ill s Write h = h
-ordered_ill s WriteMark h = h
-ordered_ill s Read h = sym (checked_ill s.tape (in_mode Reading s.drive)) ∙ h
-ordered_ill s ReadMark h = sym (standing_ill (passed s.tape s.drive.head) s.drive) ∙ h
-ordered_ill s ReadStatus h = absurd (false≢true h)
+ordered_ill : (s : Seat) (o : Option Order) → (ordered s o).moved.drive.latched.ill ≡ true → s.drive.latched.ill ≡ true
+ordered_ill s None h = h
+ordered_ill s (Some (Select n)) h = h
+ordered_ill s (Some Bot) h = h
+ordered_ill s (Some Erase) h = h
+ordered_ill s (Some Initialize) h = h
+ordered_ill s (Some Write) h = h
+ordered_ill s (Some WriteMark) h = h
+ordered_ill s (Some Read) h = sym (checked_ill s.tape (in_mode Reading s.drive)) ∙ h
+ordered_ill s (Some ReadMark) h = sym (standing_ill (passed s.tape s.drive.head) s.drive) ∙ h
+ordered_ill s (Some ReadStatus) h = absurd (false≢true h)
 
-commanded_ill : (s : Seat) (o : Order) (f : Fault) → (f ≡ Illegal → ⊥) → (commanded s o f).moved.drive.latched.ill ≡ true
+commanded_ill : (s : Seat) (o : Option Order) (f : Result (Unit {0}) Fault) → (f ≡ Err Illegal → ⊥) → (commanded s o f).moved.drive.latched.ill ≡ true
     → s.drive.latched.ill ≡ true
-commanded_ill s o Fine n h = ordered_ill s o h
-commanded_ill s o Illegal n h = absurd (n refl)
-commanded_ill s o Empty n h = h
-commanded_ill s o Plugged n h = h
-commanded_ill s o Full n h = h
+commanded_ill s o (Ok u) n h = ordered_ill s o h
+commanded_ill s o (Err Illegal) n h = absurd (n refl)
+commanded_ill s o (Err Empty) n h = h
+commanded_ill s o (Err Plugged) n h = h
+commanded_ill s o (Err Full) n h = h
 
 -- ---- of one event
 
-four_decide : (s : Seat) (k : ℕ) → first_four s.port.online s.drive k ≡ true → fault_of s (order_of k) ≡ Illegal
+four_decide : (s : Seat) (k : ℕ) → first_four s.port.online s.drive k ≡ true → fault_of s (order_of k) ≡ Err Illegal
 unfolding pick
 four_decide s k h = first_test_decides s k ∙ rw h
 
-four_let : (s : Seat) (k : ℕ) → first_four s.port.online s.drive k ≡ false → fault_of s (order_of k) ≡ Illegal → ⊥
+four_let : (s : Seat) (k : ℕ) → first_four s.port.online s.drive k ≡ false → fault_of s (order_of k) ≡ Err Illegal → ⊥
 unfolding pick
 four_let s k h e =
     go (fits5 s.drive k) (fits6 s.drive k) (fits7 s.drive (length s.tape) k) (rw h at (sym (first_test_decides s k) ∙ e))
   where
-    go : (a b c : Bool) → pick a Empty (pick b Plugged (pick c Full Fine)) ≡ Illegal → ⊥
+    go : (a b c : Bool) → pick {A = Result (Unit {0}) Fault} a (Err Empty) (pick b (Err Plugged) (pick c (Err Full) (Ok tt))) ≡ Err Illegal → ⊥
     go true b c q = let z : ◌≡◌ {A = ℕ} 0 1 = cc in omega arith
     go false true c q = let z : ◌≡◌ {A = ℕ} 0 1 = cc in omega arith
     go false false true q = let z : ◌≡◌ {A = ℕ} 0 1 = cc in omega arith
@@ -105,7 +106,7 @@ other_same f c p d i r n e = go _ (got i c.port.selected d c.drive0 c.drive1 c.d
     go x (other q) = refl
 
 illegal_leaves : (c : Core) (l : Lent) (k : ℕ) → Sound c l → first_four c.port.online (drive_at c c.port.selected) k ≡ true
-    → OnlyIll c l (effect_of c l (Own (Command k)))
+    → OnlyIll c l (effect_of c l (Some (Own (Command k))))
 unfolding pick
 illegal_leaves c l k s h =
     let d = latching Ill (drive_at c c.port.selected) in
@@ -121,14 +122,14 @@ illegal_leaves c l k s h =
     })
 
 legal_latches_none : (c : Core) (l : Lent) (k : ℕ) → first_four c.port.online (drive_at c c.port.selected) k ≡ false
-    → (drive_at (effect_of c l (Own (Command k))).turn.core c.port.selected).latched.ill ≡ true
+    → (drive_at (effect_of c l (Some (Own (Command k)))).turn.core c.port.selected).latched.ill ≡ true
     → (drive_at c c.port.selected).latched.ill ≡ true
 legal_latches_none c l k n h =
     commanded_ill (seat_of c l) (order_of k) (fault_of (seat_of c l) (order_of k)) (four_let (seat_of c l) k n) (rw put_same at h)
 
-effect_illegal : (c : Core) (l : Lent) (k : ℕ) → Sound c l → IllegalRules c l k (effect_of c l (Own (Command k)))
+effect_illegal : (c : Core) (l : Lent) (k : ℕ) → Sound c l → IllegalRules c l k (effect_of c l (Some (Own (Command k))))
 effect_illegal c l k s = record { illegal = illegal_leaves c l k s; legal = legal_latches_none c l k }
 
 pub illegal_exactly : IllegalExactly
 illegal_exactly c l event k w q n =
-    effect_by (IllegalRules c l k) c l event (Own (Command k)) q n (λ p s _. effect_illegal c l k (sound c l p s w))
+    effect_by (IllegalRules c l k) c l event (Some (Own (Command k))) q n (λ p s _. effect_illegal c l k (sound c l p s w))

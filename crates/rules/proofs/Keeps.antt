@@ -7,6 +7,7 @@ use native.Mathlib.Omega.{arith}
 use lib.Dec.{eqb}
 use lib.ListN.{length}
 use borrow.Author.Tests.{eqb-true, eqb-false}
+use Rattle.std.specs.Prelude.{Option, None, Some}
 use Rattle.basis.specs.Choice.{pick}
 use Rattle.rules.specs.declared.drive.Drive.{Drive}
 use Rattle.rules.specs.declared.drive.Mode.{Mode}
@@ -19,7 +20,7 @@ use Rattle.rules.specs.declared.event.Act.{Act}
 use Rattle.rules.specs.declared.event.What.{What}
 use Rattle.rules.specs.declared.event.What.TheVariants.{In, Out, Error, Underrun}
 use Rattle.rules.specs.declared.event.Event.{Event}
-use Rattle.rules.specs.declared.event.Event.TheVariants.{NoEvent, Reset, Named, Own}
+use Rattle.rules.specs.declared.event.Event.TheVariants.{Reset, Named, Own}
 use Rattle.rules.specs.declared.answer.Answer.TheVariants.{Taken}
 use Rattle.rules.specs.Drive.{was_reset}
 use Rattle.rules.specs.Unit.{Lent, drive_at, put_drive, tape_at, put_tape, at_phase, reset_core, Whole}
@@ -114,7 +115,7 @@ away_phase Error ph = refl
 away_phase Underrun ph = refl
 
 named_sound : (c : Core) (l : Lent) → Sound c l → (i : ℕ) (w : What) → i ≤ 3 → slot_answer (drive_at c i).loaded w ≡ Taken
-    → Sound (effect_of c l (Named i w)).turn.core l
+    → Sound (effect_of c l (Some (Named i w))).turn.core l
 named_sound c l k i w r h = record { sel = k.sel; phase = go (eqb i n) refl; fit = fits; near = k.near; whole = k.whole }
   where
     n : ℕ
@@ -138,12 +139,12 @@ named_sound c l k i w r h = record { sel = k.sel; phase = go (eqb i n) refl; fit
 
 -- ---- a step
 
-pub effect_sound : (c : Core) (l : Lent) (e : Event) → Sound c l → ((i : ℕ) (w : What) → e ≡ Named i w → i ≤ 3) → refusal_in c e ≡ Taken
+pub effect_sound : (c : Core) (l : Lent) (e : Option Event) → Sound c l → ((i : ℕ) (w : What) → e ≡ Some (Named i w) → i ≤ 3) → refusal_in c e ≡ Taken
     → Sound (effect_of c l e).turn.core (effect_of c l e).lent
-effect_sound c l NoEvent k r h = k
-effect_sound c l Reset k r h = reset_sound c l k
-effect_sound c l (Named i w) k r h = named_sound c l k i w (r i w refl) h
-effect_sound c l (Own a) k r h =
+effect_sound c l None k r h = k
+effect_sound c l (Some Reset) k r h = reset_sound c l k
+effect_sound c l (Some (Named i w)) k r h = named_sound c l k i w (r i w refl) h
+effect_sound c l (Some (Own a)) k r h =
     let k2 = staged_sound c l a k in
     landed_sound c (staged_in c a l) _ k2 (Good.does_good (staged_in c a l).staging k2.whole (seat_of c l) (sound_seat c l k) a _
     (own_does c l a k h))
@@ -164,7 +165,7 @@ fresh_is_possible = refl
 -- ---- tapes
 
 pub own_tape_lem : (c : Core) (l : Lent) (a : Act) (i : ℕ) → i ≤ 3 → Sound c l
-    → Got i c.port.selected (act (staged_in c a l).staging (seat_of c l) a).tape (tape_at l i) (tape_at (effect_of c l (Own a)).lent i)
+    → Got i c.port.selected (act (staged_in c a l).staging (seat_of c l) a).tape (tape_at l i) (tape_at (effect_of c l (Some (Own a))).lent i)
 own_tape_lem c l a i r k =
     got i c.port.selected (act (staged_in c a l).staging (seat_of c l) a).tape l.tape0 l.tape1 l.tape2 l.tape3 r k.sel
 
@@ -175,18 +176,18 @@ tape_step : (P : List ℕ → List ℕ → Type 0) → ((t : List ℕ) → P t t
 tape_step P same-tape c l event i r w f = sound_step (λ s. P (tape_at l i) (tape_at s.lent i)) c l event w (λ _. same-tape _) (go (event_of event))
   where
     own : (a : Act) (t : List ℕ) → Got i c.port.selected (act (staged_in c a l).staging (seat_of c l) a).tape (tape_at l i) t → Sound c l
-        → refusal_in c (Own a) ≡ Taken → P (tape_at l i) t
+        → refusal_in c (Some (Own a)) ≡ Taken → P (tape_at l i) t
     own a t (other n) k h = same-tape _
     own a t (same e) k h =
         subst (λ (j : ℕ). P (tape_at l j) (act (staged_in c a l).staging (seat_of c l) a).tape) e
         (f (act (staged_in c a l).staging (seat_of c l) a)
         (Good.does_good (staged_in c a l).staging (staged_sound c l a k).whole (seat_of c l) (sound_seat c l k) a _ (own_does c l a k h)) e)
 
-    go : (e : Event) → Sound c l → refusal_in c e ≡ Taken → P (tape_at l i) (tape_at (effect_of c l e).lent i)
-    go NoEvent k h = same-tape _
-    go Reset k h = same-tape _
-    go (Named j x) k h = same-tape _
-    go (Own a) k h = own a _ (own_tape_lem c l a i r k) k h
+    go : (e : Option Event) → Sound c l → refusal_in c e ≡ Taken → P (tape_at l i) (tape_at (effect_of c l e).lent i)
+    go None k h = same-tape _
+    go (Some Reset) k h = same-tape _
+    go (Some (Named j x)) k h = same-tape _
+    go (Some (Own a)) k h = own a _ (own_tape_lem c l a i r k) k h
 
 pub lengths_stay : LengthsStay
 lengths_stay c l event i r w = tape_step (λ t t'. length t' ≡ length t) (λ _. refl) c l event i r w (λ m g e. g.long)

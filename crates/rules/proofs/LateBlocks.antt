@@ -6,8 +6,9 @@ use mathlib.Core.List.{List}
 use native.Mathlib.Omega.{arith}
 use lib.ListN.{length}
 use borrow.Author.Tests.{le-leb}
+use Rattle.std.specs.Prelude.{Some}
 use Rattle.basis.specs.Choice.{pick}
-use Rattle.tape.specs.declared.found.Found.TheVariants.{Stop}
+use Rattle.std.specs.Prelude.{Err}
 use Rattle.tape.specs.declared.found.Why.TheVariants.{End}
 use Rattle.tape.specs.Record.{found_at, block_record}
 use Rattle.tape.specs.Recording.{recorded}
@@ -53,7 +54,7 @@ behind g t h d e r q =
     record {
       head = q;
       room = room;
-      end = subst (λ (x : ℕ). found_at (recorded t h (block_record g)) x ≡ Stop End) at (recording_cuts_off.1 t g h e (omega (arith, r))).ends;
+      end = subst (λ (x : ℕ). found_at (recorded t h (block_record g)) x ≡ Err End) at (recording_cuts_off.1 t g h e (omega (arith, r))).ends;
       mark = mark_through d _ room;
     }
 
@@ -74,7 +75,7 @@ given_behind g s b e p r = rw p (stored_behind g _ s.drive s.tape e r)
 
 pub byte_behind : ByteBehind
 byte_behind c l event b w x =
-    effect_by (λ s. Behind (drive_at s.turn.core n) (tape_at s.lent n) (drive_at c n).head) c l event (Own (Give b)) x.given.byte x.given.taken
+    effect_by (λ s. Behind (drive_at s.turn.core n) (tape_at s.lent n) (drive_at c n).head) c l event (Some (Own (Give b))) x.given.byte x.given.taken
     (λ p q h. let k = staged_sound c l (Give b) (sound c l p q w) in
     rw (put_same, put_same) (given_behind (staged_in c (Give b) l).staging (seat_of c l) b k.whole x.given.place x.room))
   where
@@ -119,7 +120,7 @@ given_ends g s b e w p = rw p (stored_ends g _ s.drive s.tape e w)
 
 pub eom_exactly : EomExactly
 eom_exactly c l event b w x =
-    effect_by (λ s. EomOrOn (drive_at c n) (drive_at s.turn.core n) (length (tape_at l n)) s.turn.answer) c l event (Own (Give b)) x.byte x.taken
+    effect_by (λ s. EomOrOn (drive_at c n) (drive_at s.turn.core n) (length (tape_at l n)) s.turn.answer) c l event (Some (Own (Give b))) x.byte x.taken
     (λ p q h. there (staged_sound c l (Give b) (sound c l p q w)).whole (taking_writing c.port.phase (drive_at c n) (in_step_lem _ h)))
   where
     n : ℕ
@@ -129,7 +130,7 @@ eom_exactly c l event b w x =
     m = act (staged_in c (Give b) l).staging (seat_of c l) (Give b)
 
     there : length (staged_in c (Give b) l).staging ≡ 512 → (drive_at c n).mode ≡ Writing
-        → EomOrOn (drive_at c n) (drive_at (effect_of c l (Own (Give b))).turn.core n) (length (tape_at l n)) (pick m.moved.raised Raised Taken)
+        → EomOrOn (drive_at c n) (drive_at (effect_of c l (Some (Own (Give b)))).turn.core n) (length (tape_at l n)) (pick m.moved.raised Raised Taken)
     there e v =
         let ends = given_ends (staged_in c (Give b) l).staging (seat_of c l) b e v x.place in
         record {

@@ -7,13 +7,14 @@ use native.Mathlib.Omega.{arith}
 use lib.Dec.{eqb}
 use lib.ListN.{length}
 use borrow.Author.Tests.{ne_eqb, eq-eqb}
+use Rattle.std.specs.Prelude.{Option, None, Some}
 use Rattle.rules.specs.declared.drive.Drive.{Drive}
 use Rattle.rules.specs.declared.drive.Mode.TheVariants.{Writing}
 use Rattle.rules.specs.declared.unit.Core.{Core}
 use Rattle.rules.specs.declared.phase.Phase.TheVariants.{Taking}
 use Rattle.rules.specs.declared.event.Act.TheVariants.{Command, Give, Take, Online, Offline}
 use Rattle.rules.specs.declared.event.Event.{Event}
-use Rattle.rules.specs.declared.event.Event.TheVariants.{NoEvent, Reset, Named, Own}
+use Rattle.rules.specs.declared.event.Event.TheVariants.{Reset, Named, Own}
 use Rattle.rules.specs.declared.order.Order.{Order}
 use Rattle.rules.specs.declared.order.Order.TheVariants.{Write}
 use Rattle.rules.specs.declared.answer.Answer.TheVariants.{Taken}
@@ -48,13 +49,13 @@ accepted_begins : (c : Core) (l : Lent) (event : List ℕ) → Accepted c l even
     → (drive_after c l event c.port.selected).late ≡ allowed_at (drive_at c c.port.selected).head (length (tape_at l c.port.selected))
 accepted_begins c l event x =
     effect_by (λ s. s.turn.answer ≡ Taken → (drive_at s.turn.core n).late ≡ allowed_at (drive_at c n).head (length (tape_at l n))) c l event
-    (Own (Command 64)) x.order (rw x.answer)
+    (Some (Own (Command 64))) x.order (rw x.answer)
     (λ _ _ _ z. rw put_same (begins (order_of 64) orders.write (quiet_is _ z))) x.answer
   where
     n : ℕ
     n = c.port.selected
 
-    begins : (o : Order) → o ≡ Write → (commanded (seat_of c l) o (fault_of (seat_of c l) o)).moved.raised ≡ false
+    begins : (o : Option Order) → o ≡ Some Write → (commanded (seat_of c l) o (fault_of (seat_of c l) o)).moved.raised ≡ false
         → (commanded (seat_of c l) o (fault_of (seat_of c l) o)).moved.drive.late ≡ allowed_at (drive_at c n).head (length (tape_at l n))
     begins o e h = ap (λ (m : Acted). m.moved.drive.late) (carried_out (seat_of c l) o (fault_of (seat_of c l) o) h ∙ ap (ordered (seat_of c l)) e)
 
@@ -65,12 +66,12 @@ given_stays : (c : Core) (l : Lent) (event : List ℕ) (i : ℕ) → i ≤ 3 →
 given_stays c l event i r w g off =
     sound_step (λ s. drive_at s.turn.core i ≡ drive_at c i) c l event w (λ _. refl) (go (event_of event) g)
   where
-    go : (e : Event) → is_act is_give e ≡ true → Sound c l → refusal_in c e ≡ Taken → drive_at (effect_of c l e).turn.core i ≡ drive_at c i
-    go NoEvent g k h = absurd (false≢true g)
-    go Reset g k h = absurd (false≢true g)
-    go (Named j x) g k h = absurd (false≢true g)
-    go (Own (Command k)) g s h = absurd (false≢true g)
-    go (Own (Give b)) g k h = at _ (own_drive c l (Give b) i r k)
+    go : (e : Option Event) → is_act is_give e ≡ true → Sound c l → refusal_in c e ≡ Taken → drive_at (effect_of c l e).turn.core i ≡ drive_at c i
+    go None g k h = absurd (false≢true g)
+    go (Some Reset) g k h = absurd (false≢true g)
+    go (Some (Named j x)) g k h = absurd (false≢true g)
+    go (Some (Own (Command k))) g s h = absurd (false≢true g)
+    go (Some (Own (Give b))) g k h = at _ (own_drive c l (Give b) i r k)
       where
         at : (y : Drive) → Got i c.port.selected (act (staged_in c (Give b) l).staging (seat_of c l) (Give b)).moved.drive (drive_at c i) y
             → y ≡ drive_at c i
@@ -78,9 +79,9 @@ given_stays c l event i r w g off =
             absurd (quits (drive_at c i).mode off
             (subst (λ (j : ℕ). (drive_at c j).mode ≡ Writing) e (taking_writing c.port.phase (drive_at c c.port.selected) (in_step_lem _ h))))
         at y (other o) = refl
-    go (Own Take) g k h = absurd (false≢true g)
-    go (Own Online) g k h = absurd (false≢true g)
-    go (Own Offline) g k h = absurd (false≢true g)
+    go (Some (Own Take)) g k h = absurd (false≢true g)
+    go (Some (Own Online)) g k h = absurd (false≢true g)
+    go (Some (Own Offline)) g k h = absurd (false≢true g)
 
 -- ---- so many at most
 

@@ -5,13 +5,14 @@ use mathlib.Core.Bool.{Bool, true, false, true≢false, false≢true}
 use mathlib.Core.List.{List}
 use lib.Dec.{leb}
 use lib.ListN.{length}
+use Rattle.std.specs.Prelude.{Option, None, Some}
 use Rattle.basis.specs.Choice.{pick}
-use Rattle.tape.specs.declared.found.Found.{Found}
-use Rattle.tape.specs.declared.found.Found.TheVariants.{Block, Mark, Stop}
+use Rattle.std.specs.Prelude.{Result, Ok, Err}
+use Rattle.tape.specs.declared.found.Kind.{Kind}
+use Rattle.tape.specs.declared.found.Kind.TheVariants.{Block, Mark}
 use Rattle.tape.specs.declared.found.Why.{Why}
 use Rattle.tape.specs.declared.found.Why.TheVariants.{End, Unknown, Bad}
-use Rattle.tape.specs.declared.pass.Passed.{Passed}
-use Rattle.tape.specs.declared.pass.Passed.TheVariants.{Past, Stopped}
+use Rattle.tape.specs.declared.pass.Stopped.{Stopped}
 use Rattle.tape.specs.Record.{found_at}
 use Rattle.tape.specs.Walk.{passed}
 use Rattle.rules.specs.declared.drive.Drive.{Drive}
@@ -22,7 +23,7 @@ use Rattle.rules.specs.declared.event.Act.{Act}
 use Rattle.rules.specs.declared.event.What.{What}
 use Rattle.rules.specs.declared.event.What.TheVariants.{In, Out, Error, Underrun}
 use Rattle.rules.specs.declared.event.Event.{Event}
-use Rattle.rules.specs.declared.event.Event.TheVariants.{NoEvent, Reset, Named, Own}
+use Rattle.rules.specs.declared.event.Event.TheVariants.{Reset, Named, Own}
 use Rattle.rules.specs.declared.order.Order.TheVariants.{Erase}
 use Rattle.rules.specs.declared.answer.Answer.TheVariants.{Taken, Raised}
 use Rattle.rules.specs.Drive.{is_writing, in_mode, passed_to}
@@ -63,28 +64,28 @@ halted_off End d = record { mode = refl; late = refl }
 halted_off Unknown d = record { mode = refl; late = refl }
 halted_off Bad d = record { mode = refl; late = refl }
 
-standing_off : (r : Passed) (d : Drive) → Off (standing r d)
-standing_off (Past at) d = record { mode = refl; late = refl }
-standing_off (Stopped at w) d = halted_off w (passed_to at d)
+standing_off : (r : Result ℕ Stopped) (d : Drive) → Off (standing r d)
+standing_off (Ok at) d = record { mode = refl; late = refl }
+standing_off (Err s) d = halted_off s.why (passed_to s.at d)
 
 -- the edge check of such a drive, and one that raised EXCEPTION
 checked_off : (t : List ℕ) (d : Drive) → Off d → Off (checked t d).drive
 unfolding checked
 checked_off t d o = go (found_at t d.head)
   where
-    go : (f : Found) → Off (edged f d)
-    go Block = o
-    go Mark = record { mode = refl; late = refl }
-    go (Stop w) = halted_off w d
+    go : (f : Result Kind Why) → Off (edged f d)
+    go (Ok Block) = o
+    go (Ok Mark) = record { mode = refl; late = refl }
+    go (Err w) = halted_off w d
 
 raised_off : (t : List ℕ) (d : Drive) → (checked t d).raised ≡ true → Off (checked t d).drive
 unfolding checked
 raised_off t d = go (found_at t d.head)
   where
-    go : (f : Found) → (checked_by f d).raised ≡ true → Off (edged f d)
-    go Block r = absurd (false≢true r)
-    go Mark r = record { mode = refl; late = refl }
-    go (Stop w) r = halted_off w d
+    go : (f : Result Kind Why) → (checked_by f d).raised ≡ true → Off (edged f d)
+    go (Ok Block) r = absurd (false≢true r)
+    go (Ok Mark) r = record { mode = refl; late = refl }
+    go (Err w) r = halted_off w d
 
 -- what WRITE allows, in numbers
 allowed_is : (h n : ℕ) → allowed_at h n ≡ pick (leb (h + 1541) n) 0 2
@@ -113,13 +114,13 @@ module _ (c : Core) (l : Lent) (event : List ℕ) where
   abbrev t : List ℕ
   t = tape_at l n
 
-  own_late : (g : List ℕ) → Fit d → (a : Act) (m : Acted) → event_of event ≡ Own a → answer_to c l event ≡ pick m.moved.raised Raised Taken
+  own_late : (g : List ℕ) → Fit d → (a : Act) (m : Acted) → event_of event ≡ Some (Own a) → answer_to c l event ≡ pick m.moved.raised Raised Taken
       → Acts.Does g (seat_of c l) a m → LateMove c l event n d m.moved.drive
   own_late g f a m q h (Acts.nothing k) = still n d _ f refl refl (λ _. refl)
   own_late g f a m q h (Acts.selects k j r e) = still n d _ f refl refl (λ _. refl)
   own_late g f a m q h (Acts.rewinds k i) = still n d _ f refl refl (λ w. absurd (quits d.mode (ap is_writing i) w))
   own_late g f a m q h (Acts.erases p) =
-      still n d _ f refl refl (λ w. absurd (quits d.mode (ap is_writing (only_idle d.mode (needs_of Erase) refl refl p.sequence)) w))
+      still n d _ f refl refl (λ w. absurd (quits d.mode (ap is_writing (only_idle d.mode (needs_of (Some Erase)) refl refl p.sequence)) w))
   own_late g f a m q h (Acts.sets_writing p) =
       begun refl (record { order = q; answer = h ∙ quiet_answer false refl }) (allowed_is d.head (length t))
   own_late g f a m q h (Acts.records_mark p) = off n d _ (record { mode = refl; late = refl })
@@ -163,15 +164,15 @@ module _ (c : Core) (l : Lent) (event : List ℕ) where
   untouched : (i : ℕ) → Fit (drive_at c i) → LateMove c l event i (drive_at c i) (drive_at c i)
   untouched i f = still i _ _ f refl refl (λ _. refl)
 
-  effect_late : (e : Event) → event_of event ≡ e → (i : ℕ) → i ≤ 3 → Sound c l → refusal_in c e ≡ Taken → Moved i (effect_of c l e)
-  effect_late NoEvent q i r k h z = untouched i (k.fit i)
-  effect_late Reset q i r k h z = off i _ _ (reset_holds Off (λ y. record { mode = refl; late = refl }) c i)
-  effect_late (Named j x) q i r k h z = go _ (named_drive c l j x i r (named_real event j x q))
+  effect_late : (e : Option Event) → event_of event ≡ e → (i : ℕ) → i ≤ 3 → Sound c l → refusal_in c e ≡ Taken → Moved i (effect_of c l e)
+  effect_late None q i r k h z = untouched i (k.fit i)
+  effect_late (Some Reset) q i r k h z = off i _ _ (reset_holds Off (λ y. record { mode = refl; late = refl }) c i)
+  effect_late (Some (Named j x)) q i r k h z = go _ (named_drive c l j x i r (named_real event j x q))
     where
       go : (y : Drive) → Got i j (befallen x (drive_at c j)) (drive_at c i) y → LateMove c l event i (drive_at c i) y
       go y (same e) = subst (λ (u : ℕ). LateMove c l event u (drive_at c u) (befallen x (drive_at c j))) e (befallen_late j x (drive_at c j) h (k.fit j))
       go y (other o) = untouched i (k.fit i)
-  effect_late (Own a) q i r k h z = go _ (own_drive c l a i r k)
+  effect_late (Some (Own a)) q i r k h z = go _ (own_drive c l a i r k)
     where
       m : Acted
       m = act (staged_in c a l).staging (seat_of c l) a

@@ -3,15 +3,16 @@ use Prim.Native.Nat.{ℕ, ◌+◌, ◌≤◌}
 use mathlib.Core.Path.{◌≡◌, refl, sym, ap, ◌∙◌}
 use mathlib.Core.Bool.{Bool, true, false, not, false≢true, true≢false}
 use mathlib.Core.List.{List}
+use Rattle.std.specs.Prelude.{None, is_some}
 use native.Mathlib.Omega.{arith}
 use lib.ListN.{length}
 use borrow.Author.Tests.{leb-true}
-use Rattle.tape.specs.declared.found.Found.{Found}
-use Rattle.tape.specs.declared.found.Found.TheVariants.{Block, Mark, Stop}
+use Rattle.std.specs.Prelude.{Result, Ok, Err}
+use Rattle.tape.specs.declared.found.Kind.{Kind}
+use Rattle.tape.specs.declared.found.Kind.TheVariants.{Block, Mark}
 use Rattle.tape.specs.declared.found.Why.{Why}
 use Rattle.tape.specs.declared.found.Why.TheVariants.{End, Unknown, Bad}
-use Rattle.tape.specs.declared.pass.Passed.{Passed}
-use Rattle.tape.specs.declared.pass.Passed.TheVariants.{Past, Stopped}
+use Rattle.tape.specs.declared.pass.Stopped.{Stopped}
 use Rattle.tape.specs.Record.{found_at}
 use Rattle.tape.specs.Recording.{erased}
 use Rattle.tape.specs.Walk.{passed}
@@ -38,19 +39,19 @@ halted_up End d = refl
 halted_up Unknown d = refl
 halted_up Bad d = refl
 
-standing_up : (r : Passed) (d : Drive) → (standing r d).exception ≡ true
-standing_up (Past at) d = refl
-standing_up (Stopped at w) d = halted_up w (passed_to at d)
+standing_up : (r : Result ℕ Stopped) (d : Drive) → (standing r d).exception ≡ true
+standing_up (Ok at) d = refl
+standing_up (Err s) d = halted_up s.why (passed_to s.at d)
 
-edged_up : (f : Found) (d : Drive) → not (is_block f) ≡ true → (edged f d).exception ≡ true
-edged_up Block d h = absurd (false≢true h)
-edged_up Mark d h = refl
-edged_up (Stop w) d h = halted_up w d
+edged_up : (f : Result Kind Why) (d : Drive) → not (is_block f) ≡ true → (edged f d).exception ≡ true
+edged_up (Ok Block) d h = absurd (false≢true h)
+edged_up (Ok Mark) d h = refl
+edged_up (Err w) d h = halted_up w d
 
-edged_same : (f : Found) (d : Drive) → not (is_block f) ≡ false → edged f d ≡ d
-edged_same Block d h = refl
-edged_same Mark d h = absurd (true≢false h)
-edged_same (Stop w) d h = absurd (true≢false h)
+edged_same : (f : Result Kind Why) (d : Drive) → not (is_block f) ≡ false → edged f d ≡ d
+edged_same (Ok Block) d h = refl
+edged_same (Ok Mark) d h = absurd (true≢false h)
+edged_same (Err w) d h = absurd (true≢false h)
 
 pub checked_up : (t : List ℕ) (d : Drive) → (checked t d).raised ≡ true → (checked t d).drive.exception ≡ true
 unfolding checked
@@ -60,10 +61,10 @@ pub checked_same : (t : List ℕ) (d : Drive) → (checked t d).raised ≡ false
 unfolding checked
 checked_same t d h = edged_same (found_at t d.head) d h
 
-edged_held : (f : Found) (d : Drive) → d.exception ≡ true → (edged f d).exception ≡ true
-edged_held Block d h = h
-edged_held Mark d h = refl
-edged_held (Stop w) d h = halted_up w d
+edged_held : (f : Result Kind Why) (d : Drive) → d.exception ≡ true → (edged f d).exception ≡ true
+edged_held (Ok Block) d h = h
+edged_held (Ok Mark) d h = refl
+edged_held (Err w) d h = halted_up w d
 
 checked_held : (t : List ℕ) (d : Drive) → d.exception ≡ true → (checked t d).drive.exception ≡ true
 unfolding checked
@@ -110,14 +111,14 @@ halted_report w d h =
     let n = halted_counts w (passed_to h d) in
     record { bits = halted_bits w (passed_to h d); errors = rw n.0 (omega arith); underruns = rw n.1 (omega arith) }
 
-standing_report : (r : Passed) (d : Drive) → ReportStays d (standing r d)
-standing_report (Past at) d = report_more d _ Fil refl refl refl
-standing_report (Stopped at w) d = halted_report w d at
+standing_report : (r : Result ℕ Stopped) (d : Drive) → ReportStays d (standing r d)
+standing_report (Ok at) d = report_more d _ Fil refl refl refl
+standing_report (Err s) d = halted_report s.why d s.at
 
-edged_report : (f : Found) (d : Drive) → ReportStays d (edged f d)
-edged_report Block d = report_same d d refl refl refl
-edged_report Mark d = report_more d _ Fil refl refl refl
-edged_report (Stop w) d = halted_report w d d.head
+edged_report : (f : Result Kind Why) (d : Drive) → ReportStays d (edged f d)
+edged_report (Ok Block) d = report_same d d refl refl refl
+edged_report (Ok Mark) d = report_more d _ Fil refl refl refl
+edged_report (Err w) d = halted_report w d d.head
 
 checked_report : (t : List ℕ) (d : Drive) → ReportStays d (checked t d).drive
 unfolding checked
@@ -139,7 +140,7 @@ module _ (g : List ℕ) (s : Seat) where
   -- The next byte is the last of a whole block.
   pub record Last : Type 0 where
     pub place : s.port.phase ≡ Giving 511
-    pub whole : found_at s.tape s.drive.head ≡ Block
+    pub whole : found_at s.tape s.drive.head ≡ Ok Block
 
   -- What an act does to the tape, and when.
   pub data Changes (a : Act) (m : Acted) : List ℕ → Type 0 where
@@ -161,11 +162,10 @@ module _ (g : List ℕ) (s : Seat) where
     pub report : (a ≡ Command 192 → ⊥) → ReportStays s.drive m.moved.drive
     pub change : Changes a m m.tape
     -- A byte comes with event 03, and with an exception only as byte 512 of a whole block; and then it does come.
-    pub absent : m.moved.given ≡ false → m.moved.byte ≡ 0
-    pub taken : m.moved.given ≡ true → a ≡ Take
-    pub last : m.moved.given ≡ true → m.moved.raised ≡ true → Last
-    pub comes : a ≡ Take → m.moved.raised ≡ false → m.moved.given ≡ true
-    pub last_comes : a ≡ Take → Last → m.moved.given ≡ true
+    pub taken : is_some m.moved.byte ≡ true → a ≡ Take
+    pub last : is_some m.moved.byte ≡ true → m.moved.raised ≡ true → Last
+    pub comes : a ≡ Take → m.moved.raised ≡ false → is_some m.moved.byte ≡ true
+    pub last_comes : a ≡ Take → Last → is_some m.moved.byte ≡ true
 
   -- What a leaf leaves of EXCEPTION, bits and counts: all as it was, or EXCEPTION up with one bit more or none, or what a check or a search left.
   record Reported (m : Acted) : Type 0 where
@@ -214,22 +214,21 @@ module _ (g : List ℕ) (s : Seat) where
   other a m n e = absurd (true≢false (sym (ap is_take e) ∙ n))
 
   -- a leaf without a byte, with a byte that no exception follows, with byte 512
-  silent : (a : Act) (m : Acted) → Reported m → Changes a m m.tape → m.moved.given ≡ false → m.moved.byte ≡ 0 → (a ≡ Take → Mute m) → Leaf a m
-  silent a m r c n z mute =
+  silent : (a : Act) (m : Acted) → Reported m → Changes a m m.tape → m.moved.byte ≡ None → (a ≡ Take → Mute m) → Leaf a m
+  silent a m r c n mute =
       record {
         held = λ u _. r.held u;
         raise = r.raise;
         quiet = r.quiet;
         report = λ _. r.report;
         change = c;
-        absent = λ _. z;
-        taken = λ h. absurd (false≢true (sym n ∙ h));
-        last = λ h _. absurd (false≢true (sym n ∙ h));
+        taken = λ h. absurd (false≢true (sym (ap is_some n) ∙ h));
+        last = λ h _. absurd (false≢true (sym (ap is_some n) ∙ h));
         comes = λ e h. absurd (true≢false (sym (mute e).raised ∙ h));
         last_comes = λ e h. absurd ((mute e).no_last h);
       }
 
-  handing : (m : Acted) → Reported m → m.tape ≡ s.tape → m.moved.given ≡ true → (m.moved.raised ≡ true → Last)
+  handing : (m : Acted) → Reported m → m.tape ≡ s.tape → is_some m.moved.byte ≡ true → (m.moved.raised ≡ true → Last)
       → Leaf Take m
   handing m r t n z =
       record {
@@ -238,7 +237,6 @@ module _ (g : List ℕ) (s : Seat) where
         quiet = r.quiet;
         report = λ _. r.report;
         change = rw t kept;
-        absent = λ h. absurd (true≢false (sym n ∙ h));
         taken = λ _. refl;
         last = λ _ h. z h;
         comes = λ _ _. n;
@@ -246,16 +244,16 @@ module _ (g : List ℕ) (s : Seat) where
       }
 
   pub does_leaf : (a : Act) (m : Acted) → Acts.Does g s a m → Leaf a m
-  does_leaf a m (Acts.nothing c) = silent a m (as_was m refl refl refl refl refl) kept refl refl (other a m refl)
-  does_leaf a m (Acts.selects c k l e) = silent a m (as_was m refl refl refl refl refl) kept refl refl (other a m refl)
-  does_leaf a m (Acts.rewinds c i) = silent a m (as_was m refl refl refl refl refl) kept refl refl (other a m refl)
-  does_leaf a m (Acts.erases p) = silent a m (as_was m refl refl refl refl refl) (erases refl refl) refl refl (other a m refl)
-  does_leaf a m (Acts.sets_writing p) = silent a m (as_was m refl refl refl refl refl) kept refl refl (other a m refl)
-  does_leaf a m (Acts.records_mark p) = silent a m (as_was m refl refl refl refl refl) (marks refl refl (leb-true _ _ p.room)) refl refl (other a m refl)
-  does_leaf a m (Acts.sets_reading c p) = silent a m (edge m (in_mode Reading s.drive) refl refl refl refl refl refl) kept refl refl (other a m refl)
+  does_leaf a m (Acts.nothing c) = silent a m (as_was m refl refl refl refl refl) kept refl (other a m refl)
+  does_leaf a m (Acts.selects c k l e) = silent a m (as_was m refl refl refl refl refl) kept refl (other a m refl)
+  does_leaf a m (Acts.rewinds c i) = silent a m (as_was m refl refl refl refl refl) kept refl (other a m refl)
+  does_leaf a m (Acts.erases p) = silent a m (as_was m refl refl refl refl refl) (erases refl refl) refl (other a m refl)
+  does_leaf a m (Acts.sets_writing p) = silent a m (as_was m refl refl refl refl refl) kept refl (other a m refl)
+  does_leaf a m (Acts.records_mark p) = silent a m (as_was m refl refl refl refl refl) (marks refl refl (leb-true _ _ p.room)) refl (other a m refl)
+  does_leaf a m (Acts.sets_reading c p) = silent a m (edge m (in_mode Reading s.drive) refl refl refl refl refl refl) kept refl (other a m refl)
   does_leaf a m (Acts.searches c) =
       let r = passed s.tape s.drive.head in
-      silent a m (loud m refl (standing_up r s.drive) (standing_report r s.drive)) kept refl refl (other a m refl)
+      silent a m (loud m refl (standing_up r s.drive) (standing_report r s.drive)) kept refl (other a m refl)
   does_leaf a m Acts.reports =
       record {
         held = λ _ n. absurd (n refl);
@@ -263,32 +261,31 @@ module _ (g : List ℕ) (s : Seat) where
         quiet = λ _ u. absurd (false≢true u);
         report = λ n. absurd (n refl);
         change = kept;
-        absent = λ _. refl;
         taken = λ h. absurd (false≢true h);
         last = λ h _. absurd (false≢true h);
         comes = λ e _. absurd (true≢false (sym (ap is_take e)));
         last_comes = λ e _. absurd (true≢false (sym (ap is_take e)));
       }
-  does_leaf a m (Acts.faults c b) = silent a m (one_bit m b refl refl refl refl refl) kept refl refl (other a m refl)
-  does_leaf a m (Acts.meets_plug c) = silent a m (loud m refl refl (report_same s.drive _ refl refl refl)) kept refl refl (other a m refl)
-  does_leaf a m (Acts.finds_no_room c) = silent a m (one_bit m Eom refl refl refl refl refl) kept refl refl (other a m refl)
-  does_leaf a m (Acts.stages b k l w) = silent a m (as_was m refl refl refl refl refl) kept refl refl (other a m refl)
-  does_leaf a m (Acts.records_block b q w r n) = silent a m (as_was m refl refl refl refl refl) (blocks b refl q r) refl refl (other a m refl)
-  does_leaf a m (Acts.records_last b q w r) = silent a m (one_bit m Eom refl refl refl refl refl) (blocks b refl q r) refl refl (other a m refl)
-  does_leaf a m (Acts.drops_block b) = silent a m (one_bit m Eom refl refl refl refl refl) kept refl refl (other a m refl)
+  does_leaf a m (Acts.faults c b) = silent a m (one_bit m b refl refl refl refl refl) kept refl (other a m refl)
+  does_leaf a m (Acts.meets_plug c) = silent a m (loud m refl refl (report_same s.drive _ refl refl refl)) kept refl (other a m refl)
+  does_leaf a m (Acts.finds_no_room c) = silent a m (one_bit m Eom refl refl refl refl refl) kept refl (other a m refl)
+  does_leaf a m (Acts.stages b k l w) = silent a m (as_was m refl refl refl refl refl) kept refl (other a m refl)
+  does_leaf a m (Acts.records_block b q w r n) = silent a m (as_was m refl refl refl refl refl) (blocks b refl q r) refl (other a m refl)
+  does_leaf a m (Acts.records_last b q w r) = silent a m (one_bit m Eom refl refl refl refl refl) (blocks b refl q r) refl (other a m refl)
+  does_leaf a m (Acts.drops_block b) = silent a m (one_bit m Eom refl refl refl refl refl) kept refl (other a m refl)
   does_leaf a m (Acts.hands_octet k e) = handing m (as_was m refl refl refl refl refl) refl refl (λ h. absurd (false≢true h))
   does_leaf a m (Acts.hands_byte k l w e) = handing m (as_was m refl refl refl refl refl) refl refl (λ h. absurd (false≢true h))
   does_leaf a m (Acts.hands_last q w e) =
       handing m (edge m (passed_to (s.drive.head + 513) s.drive) refl refl refl refl refl refl) refl refl (λ _. record { place = q; whole = e })
-  does_leaf a m (Acts.meets_edge q r) = silent a m (edge m s.drive refl refl refl refl (sym r) refl) kept refl refl
+  does_leaf a m (Acts.meets_edge q r) = silent a m (edge m s.drive refl refl refl refl (sym r) refl) kept refl
       (λ _. record { raised = refl; no_last = λ l. rest_is_not_511 (sym q ∙ l.place) })
   does_leaf a m (Acts.finds_no_block k q n) =
       let w = spoilt (found_at s.tape s.drive.head) in
-      silent a m (loud m refl (halted_up w s.drive) (halted_report w s.drive s.drive.head)) kept refl refl
+      silent a m (loud m refl (halted_up w s.drive) (halted_report w s.drive s.drive.head)) kept refl
       (λ _. record { raised = refl; no_last = λ l. true≢false (sym (ap is_block l.whole) ∙ n) })
-  does_leaf a m Acts.goes_up = silent a m (as_was m refl refl refl refl refl) kept refl refl (other a m refl)
-  does_leaf a m Acts.goes_down = silent a m (as_was m refl refl refl refl refl) kept refl refl (other a m refl)
-  does_leaf a m Acts.goes_idle = silent a m (as_was m refl refl refl refl refl) kept refl refl (other a m refl)
-  does_leaf a m Acts.goes_home = silent a m (as_was m refl refl refl refl refl) kept refl refl (other a m refl)
-  does_leaf a m (Acts.leaves_mark u x w r) = silent a m (as_was m refl refl refl refl refl) (leaves_mark refl u (rw (w, x)) refl r) refl refl (other a m refl)
-  does_leaf a m Acts.has_no_room = silent a m (one_bit m Eom refl refl refl refl refl) kept refl refl (other a m refl)
+  does_leaf a m Acts.goes_up = silent a m (as_was m refl refl refl refl refl) kept refl (other a m refl)
+  does_leaf a m Acts.goes_down = silent a m (as_was m refl refl refl refl refl) kept refl (other a m refl)
+  does_leaf a m Acts.goes_idle = silent a m (as_was m refl refl refl refl refl) kept refl (other a m refl)
+  does_leaf a m Acts.goes_home = silent a m (as_was m refl refl refl refl refl) kept refl (other a m refl)
+  does_leaf a m (Acts.leaves_mark u x w r) = silent a m (as_was m refl refl refl refl refl) (leaves_mark refl u (rw (w, x)) refl r) refl (other a m refl)
+  does_leaf a m Acts.has_no_room = silent a m (one_bit m Eom refl refl refl refl refl) kept refl (other a m refl)

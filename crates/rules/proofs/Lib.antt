@@ -1,6 +1,7 @@
 pub mod Phases
 pub mod Numbers
 pub mod Places
+pub mod Counters
 pub mod Rooms
 pub mod Sound
 pub mod Codes

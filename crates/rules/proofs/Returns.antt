@@ -7,7 +7,7 @@ use native.Mathlib.Omega.{arith}
 use lib.ListN.{length, take, replicate}
 use lib.Seq.{take-take}
 use Rattle.basis.specs.Choice.{pick}
-use Rattle.tape.specs.declared.pass.Passed.TheVariants.{Past}
+use Rattle.std.specs.Prelude.{Ok}
 use Rattle.tape.specs.Walk.{trail, start_of, past_marks}
 use Rattle.tape.specs.Recording.{recorded}
 use Rattle.tape.specs.Held.{Holds}
@@ -97,7 +97,7 @@ six_octets p d t w g k =
     octet_next p d t w5 g 1 (octet_next p d t w4 g 2 (octet_next p d t w3 g 3 (octet_next p d t w2 g 4 (octet_next p d t w1 g 5
     (octet_next p d t w g 6 k)))))
 
-passes_one : (w : World) (n h m : ℕ) (t : List ℕ) → past_marks 1 (trail t h) ≡ Past m → Stands w n h t
+passes_one : (w : World) (n h m : ℕ) (t : List ℕ) → past_marks 1 (trail t h) ≡ Ok m → Stands w n h t
     → Stands (run w (command 160 ++ report)) n m t
 passes_one w n h m t e s =
     let f = s.fit in
@@ -116,7 +116,7 @@ passes_one w n h m t e s =
       at = refl;
     }
 
-passes : (k : ℕ) (w : World) (n h m : ℕ) (t : List ℕ) → past_marks k (trail t h) ≡ Past m → Stands w n h t → Stands (run w (passing k)) n m t
+passes : (k : ℕ) (w : World) (n h m : ℕ) (t : List ℕ) → past_marks k (trail t h) ≡ Ok m → Stands w n h t → Stands (run w (passing k)) n m t
 passes zero w n h m t e s = let q : start_of (trail t h) ≡ m = cc in subst (λ (x : ℕ). Stands w n x t) (sym (trail_start t h) ∙ q) s
 passes (suc k) w n h m t e s =
     let on = past_next t h k m e in
@@ -164,7 +164,7 @@ recorded_ready w bs a m =
 
 -- a recording leaves the way to where it began
 same_way : (w : World) (bs : List (List ℕ)) (k h : ℕ) → AllWhole bs → MayRecord w (length bs) → h ≤ (drive_of w).head
-    → past_marks k (trail (tape_of w) 0) ≡ Past h → past_marks k (trail (tape_of (run w (recording bs))) 0) ≡ Past h
+    → past_marks k (trail (tape_of w) 0) ≡ Ok h → past_marks k (trail (tape_of (run w (recording bs))) 0) ≡ Ok h
 same_way w bs k h a m near e =
     let t = tape_of w in
     let fits = strike_fits w bs a m in
@@ -178,7 +178,7 @@ same_way w bs k h a m near e =
 
 -- and leads there
 pub strike_found : (w : World) (bs : List (List ℕ)) (k : ℕ) (back : List (List ℕ)) → AllWhole bs → MayRecord w (length bs)
-    → past_marks k (trail (tape_of w) 0) ≡ Past (drive_of w).head → Back back
+    → past_marks k (trail (tape_of w) 0) ≡ Ok (drive_of w).head → Back back
     → Arrives (run w (recording bs)) (run (run w (recording bs)) (back ++ passing k)) (drive_of w).head
 strike_found w bs k back a m e b =
     way_back (run w (recording bs)) k (drive_of w).head back (recorded_ready w bs a m) b (same_way w bs k (drive_of w).head a m (omega arith) e)

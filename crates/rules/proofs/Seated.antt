@@ -3,6 +3,7 @@ use Prim.Native.Nat.{ℕ}
 use mathlib.Core.Path.{◌≡◌, refl, ap, subst, ◌∙◌}
 use mathlib.Core.Bool.{true}
 use mathlib.Core.List.{List}
+use Rattle.std.specs.Prelude.{Some}
 use Rattle.basis.specs.Choice.{pick}
 use Rattle.rules.specs.declared.unit.Core.{Core}
 use Rattle.rules.specs.declared.event.Act.{Act}
@@ -45,15 +46,14 @@ left m = seat m.moved.port m.moved.drive m.tape
 pub record Moves (w : World) (e : List ℕ) (g : List ℕ) (m : Acted) : Type 0 where
   pub next : Sits (after w e) g (left m)
   pub answer : (turn_of w e).answer ≡ pick m.moved.raised Raised Taken
-  pub given : (turn_of w e).given ≡ m.moved.given
   pub byte : (turn_of w e).byte ≡ m.moved.byte
 
-step_owned : (c : Core) (l : Lent) (e : List ℕ) (a : Act) → Sound c l → event_of e ≡ Own a
+step_owned : (c : Core) (l : Lent) (e : List ℕ) (a : Act) → Sound c l → event_of e ≡ Some (Own a)
     → in_step_at c.port.phase (seat_of c l).drive a ≡ true → step_of c l e ≡ owned c (staged_in c a l) a
 unfolding pick
 step_owned c l e a k q i = step_is c l e k ∙ rw (q, i)
 
-moves_here : (w : World) (e : List ℕ) (a : Act) → Sound w.core w.lent → event_of e ≡ Own a
+moves_here : (w : World) (e : List ℕ) (a : Act) → Sound w.core w.lent → event_of e ≡ Some (Own a)
     → in_step_at w.core.port.phase (seat_of w.core w.lent).drive a ≡ true
     → (act (staged w.core.port.phase a w.lent.staging) (seat_of w.core w.lent) a).moved.port.selected ≡ w.core.port.selected
     → Moves w e (staged w.core.port.phase a w.lent.staging)
@@ -69,12 +69,11 @@ moves_here w e a k q i h =
             sound = step_stays_sound w.core w.lent e k;
           };
       answer = ap (λ (s : Stepped). s.turn.answer) o;
-      given = ap (λ (s : Stepped). s.turn.given) o;
       byte = ap (λ (s : Stepped). s.turn.byte) o;
     }
 
 -- An act of the host that is in step, and leaves the drive selected, is what the event does.
-pub sits_step : (w : World) (g : List ℕ) (s : Seat) (e : List ℕ) (a : Act) → Sits w g s → event_of e ≡ Own a
+pub sits_step : (w : World) (g : List ℕ) (s : Seat) (e : List ℕ) (a : Act) → Sits w g s → event_of e ≡ Some (Own a)
     → in_step_at s.port.phase s.drive a ≡ true
     → (act (staged s.port.phase a g) s a).moved.port.selected ≡ s.port.selected
     → Moves w e (staged s.port.phase a g) (act (staged s.port.phase a g) s a)

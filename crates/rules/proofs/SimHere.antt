@@ -5,6 +5,7 @@ use mathlib.Core.Bool.{Bool, true, false, ◌&&◌}
 use mathlib.Core.List.{List, []}
 use lib.Dec.{eqb}
 use borrow.Author.Tests.{eqb-true}
+use Rattle.std.specs.Prelude.{Option, None, Some}
 use Rattle.basis.specs.Choice.{pick}
 use Rattle.rules.specs.declared.drive.Drive.{Drive}
 use Rattle.rules.specs.declared.phase.Phase.TheVariants.{Rest}
@@ -13,7 +14,7 @@ use Rattle.rules.specs.declared.unit.Core.{Core}
 use Rattle.rules.specs.declared.event.Act.{Act}
 use Rattle.rules.specs.declared.event.What.{What}
 use Rattle.rules.specs.declared.event.Event.{Event}
-use Rattle.rules.specs.declared.event.Event.TheVariants.{NoEvent, Reset, Named, Own}
+use Rattle.rules.specs.declared.event.Event.TheVariants.{Reset, Named, Own}
 use Rattle.rules.specs.declared.answer.Answer.{Answer}
 use Rattle.rules.specs.declared.answer.Answer.TheVariants.{Taken, Raised, OutOfStep, Malformed}
 use Rattle.rules.specs.Drive.{was_reset}
@@ -44,22 +45,22 @@ module _ (c : Core) (l : Lent) (k : Sound c l) (d : ℕ) (d3 : d ≤ 3) where
 
   -- ---- refused, RESET, cartridges and counts of drive d
 
-  pub refused_sim : (e : Event) (a : Answer) → (row_of a).lines_down ≡ false → Sim d e c cv (refused a c l) (refused a cv lv)
+  pub refused_sim : (e : Option Event) (a : Answer) → (row_of a).lines_down ≡ false → Sim d e c cv (refused a c l) (refused a cv lv)
   unfolding pick
   refused_sim e a n =
-      sim_of d e c l (refused a c l) (refused a cv lv) (record { is = rw n }) (record { is = rw n }) (sym (look_twice d (world c l) k)) refl refl refl
+      sim_of d e c l (refused a c l) (refused a cv lv) (record { is = rw n }) (record { is = rw n }) (sym (look_twice d (world c l) k)) refl refl
 
-  pub reset_sim : Sim d Reset c cv (effect_of c l Reset) (effect_of cv lv Reset)
+  pub reset_sim : Sim d (Some Reset) c cv (effect_of c l (Some Reset)) (effect_of cv lv (Some Reset))
   reset_sim =
-      sim_of d Reset c l (effect_of c l Reset) (effect_of cv lv Reset) (record { is = refl }) (record { is = refl })
+      sim_of d (Some Reset) c l (effect_of c l (Some Reset)) (effect_of cv lv (Some Reset)) (record { is = refl }) (record { is = refl })
       (looks_alike d (reset_port c.port) (reset_port cv.port) l.staging lv.staging _ _ _ _
       (ap (λ (o : Bool). seen_by d (record { selected = 0; online = o; phase = Rest; octets = [] })) (sym (seen_level d c.port)))
       (rest_staging d (reset_port c.port) l.staging refl ∙ sym (rest_staging d (reset_port cv.port) lv.staging refl))
       (reset_drive c d ∙ ap was_reset (sym (look_drive d (world c l))) ∙ sym (reset_drive cv d))
       (sym (look_tape d (world c l))))
-      refl refl refl
+      refl refl
 
-  named_view : (x : What) → seen_in d (effect_of c l (Named d x)) ≡ seen_in d (effect_of cv lv (Named d x))
+  named_view : (x : What) → seen_in d (effect_of c l (Some (Named d x))) ≡ seen_in d (effect_of cv lv (Some (Named d x)))
   named_view x = go (eqb c.port.selected d) refl
     where
       after : Port → Port
@@ -72,7 +73,7 @@ module _ (c : Core) (l : Lent) (k : Sound c l) (d : ℕ) (d3 : d ≤ 3) where
           ∙ ap (befallen x) (sym (look_drive d (world c l)))
           ∙ sym (put_there d d (befallen x (drive_at cv d)) cv.drive0 cv.drive1 cv.drive2 cv.drive3 refl)
 
-      go : (b : Bool) → eqb c.port.selected d ≡ b → seen_in d (effect_of c l (Named d x)) ≡ seen_in d (effect_of cv lv (Named d x))
+      go : (b : Bool) → eqb c.port.selected d ≡ b → seen_in d (effect_of c l (Some (Named d x))) ≡ seen_in d (effect_of cv lv (Some (Named d x)))
       go true e =
           here_alike d (after c.port) (after cv.port) l.staging lv.staging _ _ _ _
           (part_port (is_out x && eqb d c.port.selected) c.port ∙ ap (λ (q : Port). here_port (after q)) (sym (seen_here d c.port e)))
@@ -84,19 +85,19 @@ module _ (c : Core) (l : Lent) (k : Sound c l) (d : ℕ) (d3 : d ≤ 3) where
           away_alike d (after c.port) (after cv.port) l.staging lv.staging _ _ _ _ e (here_same d c.port
           ∙ e) (sym (seen_level d c.port)) drives (sym (look_tape d (world c l)))
 
-  pub named_sim : (x : What) → Sim d (Named d x) c cv (settled c l (Named d x) (refusal_in c (Named d x)))
-      (settled cv lv (Named d x) (refusal_in cv (Named d x)))
+  pub named_sim : (x : What) → Sim d (Some (Named d x)) c cv (settled c l (Some (Named d x)) (refusal_in c (Some (Named d x))))
+      (settled cv lv (Some (Named d x)) (refusal_in cv (Some (Named d x))))
   unfolding pick
   named_sim x =
-      subst (λ (y : Drive). Sim d (Named d x) c cv (settled c l (Named d x) (refusal_in c (Named d x)))
-      (settled cv lv (Named d x) (slot_answer y.loaded x)))
+      subst (λ (y : Drive). Sim d (Some (Named d x)) c cv (settled c l (Some (Named d x)) (refusal_in c (Some (Named d x))))
+      (settled cv lv (Some (Named d x)) (slot_answer y.loaded x)))
       (sym (look_drive d (world c l))) (go _ (slotted (drive_at c d).loaded x))
     where
-      go : (a : Answer) → Slotted a → Sim d (Named d x) c cv (settled c l (Named d x) a) (settled cv lv (Named d x) a)
+      go : (a : Answer) → Slotted a → Sim d (Some (Named d x)) c cv (settled c l (Some (Named d x)) a) (settled cv lv (Some (Named d x)) a)
       go a lets =
-          sim_of d (Named d x) c l (effect_of c l (Named d x)) (effect_of cv lv (Named d x)) (record { is = refl }) (record { is = refl })
-          (named_view x) refl refl refl
-      go a (bars stops calm) = rw (stops) (refused_sim (Named d x) a calm)
+          sim_of d (Some (Named d x)) c l (effect_of c l (Some (Named d x))) (effect_of cv lv (Some (Named d x))) (record { is = refl }) (record { is = refl })
+          (named_view x) refl refl
+      go a (bars stops calm) = rw (stops) (refused_sim (Some (Named d x)) a calm)
 
   -- ---- an act of drive d itself
 
@@ -124,11 +125,11 @@ module _ (c : Core) (l : Lent) (k : Sound c l) (d : ℕ) (d3 : d ≤ 3) where
         (ap₂ (λ (q : Port) (g : List ℕ). staged q.phase a g) (seen_here d c.port e) (staging_here d c.port l.staging e)) seat_look
 
     own_here : (a : Act) → in_step_at c.port.phase (drive_at c c.port.selected) a ≡ true
-        → Sim d (Own a) c cv (effect_of c l (Own a)) (effect_of cv lv (Own a))
+        → Sim d (Some (Own a)) c cv (effect_of c l (Some (Own a))) (effect_of cv lv (Some (Own a)))
     own_here a h =
-        sim_of d (Own a) c l (effect_of c l (Own a)) (effect_of cv lv (Own a)) (record { is = refl }) (record { is = refl }) view
+        sim_of d (Some (Own a)) c l (effect_of c l (Some (Own a))) (effect_of cv lv (Some (Own a))) (record { is = refl }) (record { is = refl }) view
         (ap (λ (r : Bool). pick r Raised Taken) (r.raised ∙ ap (λ (x : Acted). x.moved.raised) m'))
-        (r.given ∙ ap (λ (x : Acted). x.moved.given) m') (r.byte ∙ ap (λ (x : Acted). x.moved.byte) m')
+        (r.byte ∙ ap (λ (x : Acted). x.moved.byte) m')
       where
         m : Acted
         m = act (staged_in c a l).staging (seat_of c l) a
@@ -145,7 +146,7 @@ module _ (c : Core) (l : Lent) (k : Sound c l) (d : ℕ) (d3 : d ≤ 3) where
         there : cv.port.selected ≡ d
         there = ap (λ (q : Port). q.selected) (seen_here d c.port e) ∙ here
 
-        view : seen_in d (effect_of c l (Own a)) ≡ seen_in d (effect_of cv lv (Own a))
+        view : seen_in d (effect_of c l (Some (Own a))) ≡ seen_in d (effect_of cv lv (Some (Own a)))
         view =
             here_alike d _ _ _ _ _ _ _ _ (r.port ∙ ap (λ (x : Acted). here_port x.moved.port) m')
             (r.block
@@ -161,20 +162,20 @@ module _ (c : Core) (l : Lent) (k : Sound c l) (d : ℕ) (d3 : d ≤ 3) where
             lv.tape3 there))
 
     -- every event while d is selected, but 07 to 0A for another drive
-    pub sim_here : (r : Change) (v : Event) (x : Answer) → reaches_by r d c.port.selected c.port.online x v ≡ true
+    pub sim_here : (r : Change) (v : Option Event) (x : Answer) → reaches_by r d c.port.selected c.port.online x v ≡ true
         → Sim d v c cv (settled c l v (refusal_in c v)) (settled cv lv v (refusal_in cv v))
     unfolding pick
-    sim_here r NoEvent x h = refused_sim NoEvent Malformed refl
-    sim_here r Reset x h = reset_sim
-    sim_here r (Named i y) x h =
-        subst (λ (j : ℕ). Sim d (Named j y) c cv (settled c l (Named j y) (refusal_in c (Named j y)))
-        (settled cv lv (Named j y) (refusal_in cv (Named j y)))) (sym (eqb-true i d h)) (named_sim y)
-    sim_here r (Own a) x h =
-        subst (λ (b : Bool). Sim d (Own a) c cv (settled c l (Own a) (refusal_in c (Own a))) (settled cv lv (Own a) (pick b Taken OutOfStep)))
+    sim_here r None x h = refused_sim None Malformed refl
+    sim_here r (Some Reset) x h = reset_sim
+    sim_here r (Some (Named i y)) x h =
+        subst (λ (j : ℕ). Sim d (Some (Named j y)) c cv (settled c l (Some (Named j y)) (refusal_in c (Some (Named j y))))
+        (settled cv lv (Some (Named j y)) (refusal_in cv (Some (Named j y))))) (sym (eqb-true i d h)) (named_sim y)
+    sim_here r (Some (Own a)) x h =
+        subst (λ (b : Bool). Sim d (Some (Own a)) c cv (settled c l (Some (Own a)) (refusal_in c (Some (Own a)))) (settled cv lv (Some (Own a)) (pick b Taken OutOfStep)))
         (sym (step_look a))
         (go (in_step_at c.port.phase (drive_at c c.port.selected) a) refl)
       where
         go : (b : Bool) → in_step_at c.port.phase (drive_at c c.port.selected) a ≡ b
-            → Sim d (Own a) c cv (settled c l (Own a) (pick b Taken OutOfStep)) (settled cv lv (Own a) (pick b Taken OutOfStep))
+            → Sim d (Some (Own a)) c cv (settled c l (Some (Own a)) (pick b Taken OutOfStep)) (settled cv lv (Some (Own a)) (pick b Taken OutOfStep))
         go true q = own_here a q
-        go false q = refused_sim (Own a) OutOfStep refl
+        go false q = refused_sim (Some (Own a)) OutOfStep refl

@@ -3,7 +3,7 @@ use Prim.Native.Nat.{ℕ}
 use mathlib.Core.Path.{◌≡◌, refl, sym, ap, ap₂, ◌∙◌}
 use mathlib.Core.Bool.{Bool, true, false, ◌&&◌, ◌||◌, true≢false, false≢true}
 use mathlib.Core.List.{List}
-use mathlib.Core.Option.{Option, none, some}
+use Rattle.std.specs.Prelude.{Option, None, Some}
 use lib.Dec.{eqb}
 use lib.ListN.{length}
 use borrow.Author.Tests.{eqb-true}
@@ -37,20 +37,20 @@ use Rattle.rules.proofs.Sight.{quiet, here_port, blank, staging_in, staging_by, 
 abbrev pub seen_in : ℕ → Stepped → World
 seen_in d s = look d (world s.turn.core s.lent)
 
-abbrev pub shows_if : Bool → Lines → Bool → ℕ → Option Shown
-shows_if here n g b = pick here (some (record { lines = n; given = g; byte = b })) none
+abbrev pub shows_if : Bool → Lines → Option ℕ → Option Shown
+shows_if here n b = pick here (Some (record { lines = n; byte = b })) None
 
 abbrev pub shown_in : ℕ → Stepped → Option Shown
-shown_in d s = shows_if (eqb s.turn.core.port.selected d) s.turn.lines s.turn.given s.turn.byte
+shown_in d s = shows_if (eqb s.turn.core.port.selected d) s.turn.lines s.turn.byte
 
 abbrev pub told_if : Bool → Answer → Option Answer
-told_if compared a = pick compared (some a) none
+told_if compared a = pick compared (Some a) None
 
-abbrev pub answer_in : ℕ → ℕ → Event → Stepped → Option Answer
+abbrev pub answer_in : ℕ → ℕ → Option Event → Stepped → Option Answer
 answer_in d n e s = told_if (eqb n d || compared_away e) s.turn.answer
 
 -- The two steps are one to drive d.
-pub record Sim (d : ℕ) (e : Event) (c c' : Core) (s s' : Stepped) : Type 0 where
+pub record Sim (d : ℕ) (e : Option Event) (c c' : Core) (s s' : Stepped) : Type 0 where
   pub view : seen_in d s ≡ seen_in d s'
   pub answer : answer_in d c.port.selected e s ≡ answer_in d c'.port.selected e s'
   pub shown : shown_in d s ≡ shown_in d s'
@@ -65,39 +65,39 @@ lines_here d x e =
     ∙ sym (put_there _ d (drive_at x.core d) quiet quiet quiet quiet (sym n)))
     ∙ sym (ap (λ (q : Port). lines_at q.phase (drive_at (look d x).core q.selected)) (seen_here d x.core.port e))
 
-pub shown_look : (d : ℕ) (x : World) (n : Lines) (g : Bool) (b : ℕ) → n ≡ lines_of x.core
-    → shows_if (eqb x.core.port.selected d) n g b ≡ shows_if (eqb (look d x).core.port.selected d) (lines_of (look d x).core) g b
+pub shown_look : (d : ℕ) (x : World) (n : Lines) (b : Option ℕ) → n ≡ lines_of x.core
+    → shows_if (eqb x.core.port.selected d) n b ≡ shows_if (eqb (look d x).core.port.selected d) (lines_of (look d x).core) b
 unfolding pick
-shown_look d x n g b e = rw (here_same d x.core.port) (go (eqb x.core.port.selected d) refl)
+shown_look d x n b e = rw (here_same d x.core.port) (go (eqb x.core.port.selected d) refl)
   where
-    go : (t : Bool) → eqb x.core.port.selected d ≡ t → shows_if t n g b ≡ shows_if t (lines_of (look d x).core) g b
-    go true q = ap (λ (z : Lines). some (record { lines = z; given = g; byte = b })) (e ∙ lines_here d x q)
+    go : (t : Bool) → eqb x.core.port.selected d ≡ t → shows_if t n b ≡ shows_if t (lines_of (look d x).core) b
+    go true q = ap (λ (z : Lines). Some (record { lines = z; byte = b })) (e ∙ lines_here d x q)
     go false q = refl
 
 -- steps whose lines are those of their record
 pub record Lit (s : Stepped) : Type 0 where
   pub is : s.turn.lines ≡ lines_of s.turn.core
 
-pub shown_same : (d : ℕ) (s s' : Stepped) → Lit s → Lit s' → s.turn.given ≡ s'.turn.given → s.turn.byte ≡ s'.turn.byte
+pub shown_same : (d : ℕ) (s s' : Stepped) → Lit s → Lit s' → s.turn.byte ≡ s'.turn.byte
     → seen_in d s ≡ seen_in d s' → shown_in d s ≡ shown_in d s'
-shown_same d s s' a b p q v =
-    shown_look d (world s.turn.core s.lent) s.turn.lines s.turn.given s.turn.byte a.is
-    ∙ ap (λ (x : World). shows_if (eqb x.core.port.selected d) (lines_of x.core) s.turn.given s.turn.byte) v
-    ∙ ap₂ (λ (g : Bool) (n : ℕ). shows_if (eqb (seen_in d s').core.port.selected d) (lines_of (seen_in d s').core) g n) p q
-    ∙ sym (shown_look d (world s'.turn.core s'.lent) s'.turn.lines s'.turn.given s'.turn.byte b.is)
+shown_same d s s' a b q v =
+    shown_look d (world s.turn.core s.lent) s.turn.lines s.turn.byte a.is
+    ∙ ap (λ (x : World). shows_if (eqb x.core.port.selected d) (lines_of x.core) s.turn.byte) v
+    ∙ ap (shows_if (eqb (seen_in d s').core.port.selected d) (lines_of (seen_in d s').core)) q
+    ∙ sym (shown_look d (world s'.turn.core s'.lent) s'.turn.lines s'.turn.byte b.is)
 
-pub done_lit : (r g : Bool) (b : ℕ) (c : Core) (l : Lent) → Lit (done r g b c l)
-done_lit r g b c l = record { is = refl }
+pub done_lit : (r : Bool) (b : Option ℕ) (c : Core) (l : Lent) → Lit (done r b c l)
+done_lit r b c l = record { is = refl }
 
 -- where the look of both, the answer and the byte are the same
-pub sim_of : (d : ℕ) (e : Event) (c : Core) (l : Lent) (s s' : Stepped) → Lit s → Lit s' → seen_in d s ≡ seen_in d s'
-    → s.turn.answer ≡ s'.turn.answer → s.turn.given ≡ s'.turn.given
+pub sim_of : (d : ℕ) (e : Option Event) (c : Core) (l : Lent) (s s' : Stepped) → Lit s → Lit s' → seen_in d s ≡ seen_in d s'
+    → s.turn.answer ≡ s'.turn.answer
     → s.turn.byte ≡ s'.turn.byte → Sim d e c (look d (world c l)).core s s'
-sim_of d e c l s s' a b v r g n =
+sim_of d e c l s s' a b v r n =
     record {
       view = v;
       answer = ap₂ (λ (t : Bool) (x : Answer). told_if (t || compared_away e) x) (sym (here_same d c.port)) r;
-      shown = shown_same d s s' a b g n v;
+      shown = shown_same d s s' a b n v;
     }
 
 -- ---- a part block dropped or not: what is seen of octets and staging stays what was seen
@@ -220,6 +220,6 @@ rest_reach r d level Online x h = refl
 rest_reach r d level Offline x h = refl
 
 -- an act in step is not refused
-pub taken_step : (c : Core) (a : Act) → in_step_at c.port.phase (drive_at c c.port.selected) a ≡ true → refusal_in c (Own a) ≡ Taken
+pub taken_step : (c : Core) (a : Act) → in_step_at c.port.phase (drive_at c c.port.selected) a ≡ true → refusal_in c (Some (Own a)) ≡ Taken
 unfolding pick
 taken_step c a q = rw q

@@ -6,6 +6,7 @@ use mathlib.Core.List.{List}
 use native.Mathlib.Omega.{arith}
 use lib.Dec.{ltb, eqb}
 use borrow.Author.Tests.{eqb-true, eqb-false}
+use Rattle.std.specs.Prelude.{Option, None, Some}
 use Rattle.basis.specs.Choice.{pick}
 use Rattle.rules.specs.declared.drive.Drive.{Drive}
 use Rattle.rules.specs.declared.drive.Bit.TheVariants.{Cni}
@@ -15,7 +16,7 @@ use Rattle.rules.specs.declared.event.Act.TheVariants.{Command, Give, Take, Onli
 use Rattle.rules.specs.declared.event.What.{What}
 use Rattle.rules.specs.declared.event.What.TheVariants.{In, Out, Error, Underrun}
 use Rattle.rules.specs.declared.event.Event.{Event}
-use Rattle.rules.specs.declared.event.Event.TheVariants.{NoEvent, Reset, Named, Own}
+use Rattle.rules.specs.declared.event.Event.TheVariants.{Reset, Named, Own}
 use Rattle.rules.specs.declared.answer.Answer.{Answer}
 use Rattle.rules.specs.declared.answer.Answer.TheVariants.{Taken, Raised}
 use Rattle.rules.specs.Drive.{highest, counted, was_reset}
@@ -39,12 +40,12 @@ use Rattle.rules.proofs.StepBy.{in_step_lem, step_sound, sound_step, own_does}
 
 pub own_drive : (c : Core) (l : Lent) (a : Act) (i : ℕ) → i ≤ 3 → Sound c l
     → Got i c.port.selected (act (staged_in c a l).staging (seat_of c l) a).moved.drive (drive_at c i)
-    (drive_at (effect_of c l (Own a)).turn.core i)
+    (drive_at (effect_of c l (Some (Own a))).turn.core i)
 own_drive c l a i r k =
     got i c.port.selected (act (staged_in c a l).staging (seat_of c l) a).moved.drive c.drive0 c.drive1 c.drive2 c.drive3 r k.sel
 
 pub named_drive : (c : Core) (l : Lent) (j : ℕ) (w : What) (i : ℕ) → i ≤ 3 → j ≤ 3
-    → Got i j (befallen w (drive_at c j)) (drive_at c i) (drive_at (effect_of c l (Named j w)).turn.core i)
+    → Got i j (befallen w (drive_at c j)) (drive_at c i) (drive_at (effect_of c l (Some (Named j w))).turn.core i)
 named_drive c l j w i r q = got i j (befallen w (drive_at c j)) c.drive0 c.drive1 c.drive2 c.drive3 r q
 
 -- READ STATUS or not
@@ -71,9 +72,9 @@ kind Take = no_status (λ q. let z : ◌≡◌ {A = ℕ} 0 1 = cc in omega arith
 kind Online = no_status (λ q. let z : ◌≡◌ {A = ℕ} 0 1 = cc in omega arith)
 kind Offline = no_status (λ q. let z : ◌≡◌ {A = ℕ} 0 1 = cc in omega arith)
 
-by_status : (c : Core) (event : List ℕ) (i : ℕ) (a : Act) → event_of event ≡ Own a → a ≡ Command 192 → c.port.selected ≡ i
-    → refusal_in c (Own a) ≡ Taken → ByStatus c event i
-by_status c event i a q e n h = record { event_is = q ∙ ap Own e; selected = n; rest = in_step_lem (at_rest c.port.phase) (rw e at h) }
+by_status : (c : Core) (event : List ℕ) (i : ℕ) (a : Act) → event_of event ≡ Some (Own a) → a ≡ Command 192 → c.port.selected ≡ i
+    → refusal_in c (Some (Own a)) ≡ Taken → ByStatus c event i
+by_status c event i a q e n h = record { event_is = q ∙ ap (λ (x : Act). Some (Own x)) e; selected = n; rest = in_step_lem (at_rest c.port.phase) (rw e at h) }
 
 -- ---- EXCEPTION falls only by READ STATUS
 
@@ -98,7 +99,7 @@ module _ (c : Core) (l : Lent) (event : List ℕ) (i : ℕ) (real : i ≤ 3) (up
   named_falls j w d (other n) z = fell up z
   named_falls j w d (same e) z = fell (befallen_held (drive_at c j) w (subst (λ (k : ℕ). (drive_at c k).exception ≡ true) (sym e) up)) z
 
-  own_falls : (a : Act) → event_of event ≡ Own a → Sound c l → refusal_in c (Own a) ≡ Taken → (d : Drive)
+  own_falls : (a : Act) → event_of event ≡ Some (Own a) → Sound c l → refusal_in c (Some (Own a)) ≡ Taken → (d : Drive)
       → Got i c.port.selected (act (staged_in c a l).staging (seat_of c l) a).moved.drive (drive_at c i) d → d.exception ≡ false
       → ByStatus c event i
   own_falls a q k h d (other n) z = fell up z
@@ -110,12 +111,12 @@ module _ (c : Core) (l : Lent) (event : List ℕ) (i : ℕ) (real : i ≤ 3) (up
           fell ((Leaves.does_leaf (staged_in c a l).staging (seat_of c l) a _ (own_does c l a k h)).held
           (subst (λ (j : ℕ). (drive_at c j).exception ≡ true) (sym e) up) n) z
 
-  effect_falls : (e : Event) → event_of event ≡ e → Sound c l → refusal_in c e ≡ Taken → (drive_at (effect_of c l e).turn.core i).exception ≡ false
+  effect_falls : (e : Option Event) → event_of event ≡ e → Sound c l → refusal_in c e ≡ Taken → (drive_at (effect_of c l e).turn.core i).exception ≡ false
       → ByStatus c event i
-  effect_falls NoEvent q k h z = fell up z
-  effect_falls Reset q k h z = fell (reset_up c i) z
-  effect_falls (Named j w) q k h z = named_falls j w _ (named_drive c l j w i real (named_real event j w q)) z
-  effect_falls (Own a) q k h z = own_falls a q k h _ (own_drive c l a i real k) z
+  effect_falls None q k h z = fell up z
+  effect_falls (Some Reset) q k h z = fell (reset_up c i) z
+  effect_falls (Some (Named j w)) q k h z = named_falls j w _ (named_drive c l j w i real (named_real event j w q)) z
+  effect_falls (Some (Own a)) q k h z = own_falls a q k h _ (own_drive c l a i real k) z
 
 pub exception_falls : ExceptionFalls
 exception_falls c l event i r w up =
@@ -130,17 +131,17 @@ out_is Out h = refl
 out_is Error h = cc
 out_is Underrun h = cc
 
-effect_stands : (c : Core) (l : Lent) (event : List ℕ) (e : Event) → event_of event ≡ e → Sound c l → refusal_in c e ≡ Taken
+effect_stands : (c : Core) (l : Lent) (event : List ℕ) (e : Option Event) → event_of event ≡ e → Sound c l → refusal_in c e ≡ Taken
     → (effect_of c l e).turn.answer ≡ Raised → StandsOnOne (effect_of c l e).turn.core
-effect_stands c l event NoEvent q k h z = let x : false ≡ true = raised_is false z in absurd (false≢true x)
-effect_stands c l event Reset q k h z = record { drive = 0; real = omega arith; up = reset_up c 0 }
-effect_stands c l event (Named j w) q k h z =
+effect_stands c l event None q k h z = let x : false ≡ true = raised_is false z in absurd (false≢true x)
+effect_stands c l event (Some Reset) q k h z = record { drive = 0; real = omega arith; up = reset_up c 0 }
+effect_stands c l event (Some (Named j w)) q k h z =
     record {
       drive = j;
       real = named_real event j w q;
       up = rw put_same (subst (λ (x : What). (befallen x (drive_at c j)).exception ≡ true) (sym (out_is w (raised_is (is_out w) z))) refl);
     }
-effect_stands c l event (Own a) q k h z =
+effect_stands c l event (Some (Own a)) q k h z =
     record {
       drive = c.port.selected;
       real = k.sel;
@@ -167,7 +168,7 @@ module _ (c : Core) (l : Lent) (event : List ℕ) (i : ℕ) (real : i ≤ 3) whe
   named_quiet j w d (other n) z u = u
   named_quiet j w d (same e) z u = subst (λ (k : ℕ). (drive_at c k).exception ≡ true) e (befallen_quiet (drive_at c j) w z u)
 
-  own_quiet : (a : Act) → Sound c l → refusal_in c (Own a) ≡ Taken → (d : Drive)
+  own_quiet : (a : Act) → Sound c l → refusal_in c (Some (Own a)) ≡ Taken → (d : Drive)
       → Got i c.port.selected (act (staged_in c a l).staging (seat_of c l) a).moved.drive (drive_at c i) d
       → (act (staged_in c a l).staging (seat_of c l) a).moved.raised ≡ false
       → d.exception ≡ true → (drive_at c i).exception ≡ true
@@ -175,12 +176,12 @@ module _ (c : Core) (l : Lent) (event : List ℕ) (i : ℕ) (real : i ≤ 3) whe
   own_quiet a k h d (same e) z u =
       subst (λ (j : ℕ). (drive_at c j).exception ≡ true) e ((Leaves.does_leaf (staged_in c a l).staging (seat_of c l) a _ (own_does c l a k h)).quiet z u)
 
-  effect_quiet : (e : Event) → event_of event ≡ e → Sound c l → refusal_in c e ≡ Taken → (effect_of c l e).turn.answer ≡ Taken
+  effect_quiet : (e : Option Event) → event_of event ≡ e → Sound c l → refusal_in c e ≡ Taken → (effect_of c l e).turn.answer ≡ Taken
       → (drive_at (effect_of c l e).turn.core i).exception ≡ true → (drive_at c i).exception ≡ true
-  effect_quiet NoEvent q k h z u = u
-  effect_quiet Reset q k h z u = let x : true ≡ false = quiet_is true z in absurd (true≢false x)
-  effect_quiet (Named j w) q k h z u = named_quiet j w _ (named_drive c l j w i real (named_real event j w q)) (quiet_is (is_out w) z) u
-  effect_quiet (Own a) q k h z u = own_quiet a k h _ (own_drive c l a i real k) (quiet_is _ z) u
+  effect_quiet None q k h z u = u
+  effect_quiet (Some Reset) q k h z u = let x : true ≡ false = quiet_is true z in absurd (true≢false x)
+  effect_quiet (Some (Named j w)) q k h z u = named_quiet j w _ (named_drive c l j w i real (named_real event j w q)) (quiet_is (is_out w) z) u
+  effect_quiet (Some (Own a)) q k h z u = own_quiet a k h _ (own_drive c l a i real k) (quiet_is _ z) u
 
 pub taken_raises_none : TakenRaisesNone
 taken_raises_none c l event i r w =
@@ -205,7 +206,7 @@ befallen_report d Error =
 befallen_report d Underrun =
     let r = Leaves.report_same d d refl refl refl in record { bits = r.bits; errors = r.errors; underruns = counted_up d.underruns.0 }
 
-module _ (c : Core) (l : Lent) (event : List ℕ) (i : ℕ) (real : i ≤ 3) (no-reset : event_of event ≡ Reset → ⊥)
+module _ (c : Core) (l : Lent) (event : List ℕ) (i : ℕ) (real : i ≤ 3) (no-reset : event_of event ≡ Some Reset → ⊥)
     (no-status' : ByStatus c event i → ⊥) where
   as_was : ReportStays (drive_at c i) (drive_at c i)
   as_was = Leaves.report_same (drive_at c i) (drive_at c i) refl refl refl
@@ -214,19 +215,19 @@ module _ (c : Core) (l : Lent) (event : List ℕ) (i : ℕ) (real : i ≤ 3) (no
   named_report j w d (other n) = as_was
   named_report j w d (same e) = subst (λ (k : ℕ). ReportStays (drive_at c k) (befallen w (drive_at c j))) e (befallen_report (drive_at c j) w)
 
-  own_report : (a : Act) → event_of event ≡ Own a → Sound c l → refusal_in c (Own a) ≡ Taken → (d : Drive)
+  own_report : (a : Act) → event_of event ≡ Some (Own a) → Sound c l → refusal_in c (Some (Own a)) ≡ Taken → (d : Drive)
       → Got i c.port.selected (act (staged_in c a l).staging (seat_of c l) a).moved.drive (drive_at c i) d → ReportStays (drive_at c i) d
   own_report a q k h d (other n) = as_was
   own_report a q k h d (same e) =
       subst (λ (j : ℕ). ReportStays (drive_at c j) (act (staged_in c a l).staging (seat_of c l) a).moved.drive) e
       ((Leaves.does_leaf (staged_in c a l).staging (seat_of c l) a _ (own_does c l a k h)).report (λ s. no-status' (by_status c event i a q s e h)))
 
-  effect_report : (e : Event) → event_of event ≡ e → Sound c l → refusal_in c e ≡ Taken
+  effect_report : (e : Option Event) → event_of event ≡ e → Sound c l → refusal_in c e ≡ Taken
       → ReportStays (drive_at c i) (drive_at (effect_of c l e).turn.core i)
-  effect_report NoEvent q k h = as_was
-  effect_report Reset q k h = absurd (no-reset q)
-  effect_report (Named j w) q k h = named_report j w _ (named_drive c l j w i real (named_real event j w q))
-  effect_report (Own a) q k h = own_report a q k h _ (own_drive c l a i real k)
+  effect_report None q k h = as_was
+  effect_report (Some Reset) q k h = absurd (no-reset q)
+  effect_report (Some (Named j w)) q k h = named_report j w _ (named_drive c l j w i real (named_real event j w q))
+  effect_report (Some (Own a)) q k h = own_report a q k h _ (own_drive c l a i real k)
 
 pub cleared_only : ClearedOnly
 cleared_only c l event i r w n s =

@@ -4,13 +4,14 @@ use mathlib.Core.Path.{◌≡◌, refl, sym, subst, ◌∙◌}
 use mathlib.Core.Bool.{Bool, true, false, not, true≢false, false≢true}
 use mathlib.Core.List.{List}
 use lib.ListN.{length, length-set}
+use Rattle.std.specs.Prelude.{Option, None, Some}
 use Rattle.basis.specs.Choice.{pick}
 use Rattle.rules.specs.declared.unit.Core.{Core}
 use Rattle.rules.specs.declared.phase.Phase.{Phase}
 use Rattle.rules.specs.declared.event.Act.{Act}
 use Rattle.rules.specs.declared.event.Act.TheVariants.{Command, Give, Take, Online, Offline}
 use Rattle.rules.specs.declared.event.Event.{Event}
-use Rattle.rules.specs.declared.event.Event.TheVariants.{NoEvent, Reset, Named, Own}
+use Rattle.rules.specs.declared.event.Event.TheVariants.{Reset, Named, Own}
 use Rattle.rules.specs.declared.event.What.{What}
 use Rattle.rules.specs.declared.event.What.TheVariants.{In, Out, Error, Underrun}
 use Rattle.rules.specs.declared.answer.Answer.{Answer}
@@ -52,22 +53,22 @@ slot_empty true h = cc
 slot_empty false h = refl
 
 -- what refuses an event is `Taken` or a refusal
-unrefused : (c : Core) (e : Event) → (row_of (refusal_in c e)).refuses ≡ false → refusal_in c e ≡ Taken
+unrefused : (c : Core) (e : Option Event) → (row_of (refusal_in c e)).refuses ≡ false → refusal_in c e ≡ Taken
 unfolding pick
-unrefused c NoEvent h = cc
-unrefused c Reset h = refl
-unrefused c (Named i w) h = go _ (slotted (drive_at c i).loaded w) h
+unrefused c None h = cc
+unrefused c (Some Reset) h = refl
+unrefused c (Some (Named i w)) h = go _ (slotted (drive_at c i).loaded w) h
   where
     go : (a : Answer) → Slotted a → (row_of a).refuses ≡ false → a ≡ Taken
     go a lets h = refl
     go a (bars stops calm) h = absurd (false≢true (sym h ∙ stops))
-unrefused c (Own a) h = go (in_step_at c.port.phase (drive_at c c.port.selected) a) h
+unrefused c (Some (Own a)) h = go (in_step_at c.port.phase (drive_at c c.port.selected) a) h
   where
     go : (b : Bool) → (row_of (pick b Taken OutOfStep)).refuses ≡ false → pick b Taken OutOfStep ≡ Taken
     go true h = refl
     go false h = cc
 
-pub settled_by_lem : (P : Stepped → Type 0) (c : Core) (l : Lent) (e : Event) → ((a : Answer) → (row_of a).refuses ≡ true → P (refused a c l))
+pub settled_by_lem : (P : Stepped → Type 0) (c : Core) (l : Lent) (e : Option Event) → ((a : Answer) → (row_of a).refuses ≡ true → P (refused a c l))
     → (refusal_in c e ≡ Taken → P (effect_of c l e)) → P (settled c l e (refusal_in c e))
 unfolding pick
 settled_by_lem P c l e f g = go (row_of (refusal_in c e)).refuses refl
@@ -97,12 +98,12 @@ pub sound_step : (P : Stepped → Type 0) (c : Core) (l : Lent) (event : List �
 sound_step P c l event w f g = step_sound P c l event w (λ a _. f a) g
 
 -- an event that is not refused does what its effect is
-pub effect_by : (P : Stepped → Type 0) (c : Core) (l : Lent) (event : List ℕ) (e : Event) → event_of event ≡ e
+pub effect_by : (P : Stepped → Type 0) (c : Core) (l : Lent) (event : List ℕ) (e : Option Event) → event_of event ≡ e
     → (row_of (step_of c l event).turn.answer).refuses ≡ false
     → (possible c ≡ true → short l ≡ true → refusal_in c e ≡ Taken → P (effect_of c l e)) → P (step_of c l event)
 effect_by P c l event e q n f =
     step_by_lem (λ s. (row_of s.turn.answer).refuses ≡ false → P s) c l event (λ a r z. absurd (true≢false (sym r ∙ z)))
-    (λ p s h _. subst (λ (x : Event). refusal_in c x ≡ Taken → P (effect_of c l x)) (sym q) (f p s) h) n
+    (λ p s h _. subst (λ (x : Option Event). refusal_in c x ≡ Taken → P (effect_of c l x)) (sym q) (f p s) h) n
 
 -- a byte staged leaves the block's length, and so a sound world
 staged_length : (ph : Phase) (a : Act) (g : List ℕ) → length (staged ph a g) ≡ length g
@@ -118,7 +119,7 @@ staged_sound c l a k =
     record { sel = k.sel; phase = k.phase; fit = k.fit; near = k.near; whole = staged_length c.port.phase a l.staging ∙ k.whole }
 
 -- what the selected drive does in an event that is taken
-pub own_does : (c : Core) (l : Lent) (a : Act) → Sound c l → refusal_in c (Own a) ≡ Taken
+pub own_does : (c : Core) (l : Lent) (a : Act) → Sound c l → refusal_in c (Some (Own a)) ≡ Taken
     → Does (staged_in c a l).staging (seat_of c l) a (act (staged_in c a l).staging (seat_of c l) a)
 own_does c l a k h = act_does (staged_in c a l).staging (seat_of c l) (sound_seat c l k) a (in_step_lem _ h)
 

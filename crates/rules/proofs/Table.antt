@@ -6,10 +6,11 @@ use mathlib.Core.Bool.{Bool, true, false, not}
 use mathlib.Core.List.{List}
 use native.Mathlib.Omega.{arith}
 use lib.Dec.{eqb}
+use Rattle.std.specs.Prelude.{Option, None, Some}
 use Rattle.basis.specs.Choice.{pick}
 use Rattle.rules.specs.declared.unit.Core.{Core}
 use Rattle.rules.specs.declared.event.Event.{Event}
-use Rattle.rules.specs.declared.event.Event.TheVariants.{NoEvent, Reset, Named, Own}
+use Rattle.rules.specs.declared.event.Event.TheVariants.{Reset, Named, Own}
 use Rattle.rules.specs.declared.event.What.{What}
 use Rattle.rules.specs.declared.event.What.TheVariants.{In, Out, Error, Underrun}
 use Rattle.rules.specs.declared.answer.Answer.{Answer}
@@ -53,21 +54,21 @@ in_order_lem false false false false false false =
     record { l5 = (λ h. cc, λ h. cc); l6 = (λ h. (cc, cc), λ h. cc); l4 = (λ h. (cc, cc, cc), λ h. cc); l2 = (λ h. (cc, cc, cc, cc), λ h. cc); l3 = (λ h. (cc, cc, cc, cc, cc), λ h. cc); l1 = (λ h. (cc, cc, cc, cc, cc, cc), λ h. cc); l0 = (λ _. (refl, refl, refl, refl, refl, refl), λ _. refl) }
 
 -- what is taken is answered by whether a rule raised EXCEPTION
-effect_answer : (c : Core) (l : Lent) (e : Event) → (effect_of c l e).turn.answer ≡ pick (raises c l e) Raised Taken
+effect_answer : (c : Core) (l : Lent) (e : Option Event) → (effect_of c l e).turn.answer ≡ pick (raises c l e) Raised Taken
 unfolding pick
-effect_answer c l NoEvent = refl
-effect_answer c l Reset = refl
-effect_answer c l (Named i w) = refl
-effect_answer c l (Own a) = refl
+effect_answer c l None = refl
+effect_answer c l (Some Reset) = refl
+effect_answer c l (Some (Named i w)) = refl
+effect_answer c l (Some (Own a)) = refl
 
-settled_answer : (c : Core) (l : Lent) (e : Event) → (settled c l e (refusal_in c e)).turn.answer ≡ in_order false false (malformed e)
+settled_answer : (c : Core) (l : Lent) (e : Option Event) → (settled c l e (refusal_in c e)).turn.answer ≡ in_order false false (malformed e)
     (out_of_step c e) (wrong_slot c e) (raises c l e)
 unfolding pick in_order
-settled_answer c l NoEvent = refl
-settled_answer c l Reset = refl
-settled_answer c l (Named i w) = go (drive_at c i).loaded w
+settled_answer c l None = refl
+settled_answer c l (Some Reset) = refl
+settled_answer c l (Some (Named i w)) = go (drive_at c i).loaded w
   where
-    go : (b : Bool) (w : What) → (settled c l (Named i w) (slot_answer b w)).turn.answer ≡ pick (not (slot_fits b w)) WrongSlot
+    go : (b : Bool) (w : What) → (settled c l (Some (Named i w)) (slot_answer b w)).turn.answer ≡ pick (not (slot_fits b w)) WrongSlot
         (pick (is_out w) Raised Taken)
     go true (In p) = refl
     go false (In p) = refl
@@ -77,9 +78,9 @@ settled_answer c l (Named i w) = go (drive_at c i).loaded w
     go false Error = refl
     go true Underrun = refl
     go false Underrun = refl
-settled_answer c l (Own a) = go (in_step_at c.port.phase (drive_at c c.port.selected) a)
+settled_answer c l (Some (Own a)) = go (in_step_at c.port.phase (drive_at c c.port.selected) a)
   where
-    go : (b : Bool) → (settled c l (Own a) (pick b Taken OutOfStep)).turn.answer ≡ pick (not b) OutOfStep (pick (raises c l (Own a)) Raised Taken)
+    go : (b : Bool) → (settled c l (Some (Own a)) (pick b Taken OutOfStep)).turn.answer ≡ pick (not b) OutOfStep (pick (raises c l (Some (Own a))) Raised Taken)
     go true = refl
     go false = refl
 
@@ -89,7 +90,7 @@ step_answer : (c : Core) (l : Lent) (event : List ℕ)
 unfolding pick in_order step_of step_by refusal_of
 step_answer c l event = go (possible c) (short l)
   where
-    e : Event
+    e : Option Event
     e = event_of event
 
     go : (p s : Bool) → (settled c l e (refusal_by p s (refusal_in c e))).turn.answer ≡ in_order (not p) (not s) (malformed e) (out_of_step c e)

@@ -5,12 +5,14 @@ use mathlib.Core.Bool.{Bool, true, false, not, ◌&&◌, ◌||◌}
 use mathlib.Core.List.{[], ◌∷◌, ◌++◌}
 use lib.Dec.{leb, eqb}
 use lib.ListN.{length}
+use Rattle.std.specs.Prelude.{Result, Ok, Err, None, Some}
 use Rattle.basis.specs.Choice.{pick}
 use Rattle.rules.specs.declared.drive.Mode.{Mode}
 use Rattle.rules.specs.declared.drive.Mode.TheVariants.{Idle, Writing, Reading}
-use Rattle.rules.specs.declared.order.Order.TheVariants.{NoOrder, ReadStatus}
+use Rattle.rules.specs.declared.order.Order.TheVariants.{ReadStatus}
 use Rattle.rules.specs.declared.order.Needs.{Needs}
-use Rattle.rules.specs.declared.order.Fault.TheVariants.{Fine, Full}
+use Rattle.rules.specs.declared.order.Fault.{Fault}
+use Rattle.rules.specs.declared.order.Fault.TheVariants.{Full}
 use Rattle.rules.specs.Order.{order_of, needs_of, in_sequence, has_room, illegal, first_fault, fault_by}
 use Rattle.rules.specs.Effect.{fault_of}
 use Rattle.rules.specs.Promises.Orders.{among, selecting, moving, taping, telling, fits3, room_asked, FirstTestDecides, StatusPasses}
@@ -27,7 +29,7 @@ record Row (k : ℕ) (n : Needs) : Type 0 where
   plug : n.plug ≡ among k (34 ∷ 64 ∷ 96 ∷ [])
   room : n.room ≡ room_asked k
 
-row_none : (k : ℕ) → NoCode k → Row k (needs_of NoOrder)
+row_none : (k : ℕ) → NoCode k → Row k (needs_of None)
 unfolding pick
 row_none k n =
     record {
@@ -90,7 +92,7 @@ room_asked_lem k h size = go (eqb k 64) (eqb k 96)
     go false true = refl
     go false false = refl
 
-room_or_none : (r : Bool) → pick r Fine Full ≡ pick (not r) Full Fine
+room_or_none : (r : Bool) → pick {A = Result (Unit {0}) Fault} r (Ok tt) (Err Full) ≡ pick (not r) (Err Full) (Ok tt)
 unfolding pick
 room_or_none true = refl
 room_or_none false = refl
@@ -117,7 +119,7 @@ pub status_passes : StatusPasses
 unfolding fault_of fault_by illegal pick
 status_passes s = go s.drive.exception s.drive.mode
   where
-    go : (e : Bool) (m : Mode) → first_fault (e && false || (false || (not (in_sequence m (needs_of ReadStatus)) || false))) false false true ≡ Fine
+    go : (e : Bool) (m : Mode) → first_fault (e && false || (false || (not (in_sequence m (needs_of (Some ReadStatus))) || false))) false false true ≡ Ok tt
     go true Idle = refl
     go true Writing = refl
     go true Reading = refl

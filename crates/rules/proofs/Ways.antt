@@ -6,9 +6,10 @@ use mathlib.Core.List.{List, [], ◌∷◌}
 use native.Mathlib.Omega.{arith}
 use lib.ListN.{length}
 use borrow.Author.Tests.{le-leb}
+use Rattle.std.specs.Prelude.{Ok, Some, Option}
 use Rattle.basis.specs.Choice.{pick}
-use Rattle.tape.specs.declared.found.Found.TheVariants.{Block, Mark}
-use Rattle.tape.specs.declared.pass.Passed.TheVariants.{Past}
+use Rattle.std.specs.Prelude.{Ok}
+use Rattle.tape.specs.declared.found.Kind.TheVariants.{Block, Mark}
 use Rattle.tape.specs.Record.{found_at, mark_record}
 use Rattle.tape.specs.Recording.{recorded}
 use Rattle.tape.specs.Walk.{passed}
@@ -22,7 +23,6 @@ use Rattle.rules.specs.declared.event.Act.TheVariants.{Command, Take, Online, Of
 use Rattle.rules.specs.declared.event.Event.TheVariants.{Own}
 use Rattle.rules.specs.declared.order.Order.{Order}
 use Rattle.rules.specs.declared.order.Order.TheVariants.{Bot, Write, WriteMark, Read, ReadMark, ReadStatus}
-use Rattle.rules.specs.declared.order.Fault.TheVariants.{Fine}
 use Rattle.rules.specs.Drive.{in_mode, rewound, stopping, made, passed_to, cleared}
 use Rattle.rules.specs.Unit.{at_phase, at_level, showing}
 use Rattle.rules.specs.Event.{bare_event, event_of}
@@ -47,7 +47,7 @@ pub record Fit (p : Port) (d : Drive) (m : Mode) : Type 0 where
   pub calm : d.exception ≡ false
   pub mode : d.mode ≡ m
 
-line_events : (event_of (4 ∷ []) ≡ Own Online) × (event_of (5 ∷ []) ≡ Own Offline)
+line_events : (event_of (4 ∷ []) ≡ Some (Own Online)) × (event_of (5 ∷ []) ≡ Some (Own Offline))
 unfolding event_of bare_event pick
 line_events = (refl, refl)
 
@@ -56,66 +56,66 @@ module _ (p : Port) (d : Drive) (t : List ℕ) where
   here = seat (at_phase Rest p) d t
 
   -- an order that passes the tests, and leaves the drive selected
-  order_moves : (w : World) (g : List ℕ) (k : ℕ) (o : Order) → Sits w g here → order_of k ≡ o → fault_of here o ≡ Fine
+  order_moves : (w : World) (g : List ℕ) (k : ℕ) (o : Option Order) → Sits w g here → order_of k ≡ o → fault_of here o ≡ Ok tt
       → (ordered here o).moved.port.selected ≡ p.selected → Moves w (1 ∷ k ∷ []) g (ordered here o)
   order_moves w g k o sits q fine same =
       let e : act g here (Command k) ≡ ordered here o = rw (q, fine) in
       subst (Moves w (1 ∷ k ∷ []) g) e
       (sits_step w g here (1 ∷ k ∷ []) (Command k) sits (command_event k) refl (ap (λ (m : Acted). m.moved.port.selected) e ∙ same))
 
-  bot_fine : Fit p d Idle → fault_of here Bot ≡ Fine
+  bot_fine : Fit p d Idle → fault_of here (Some Bot) ≡ Ok tt
   unfolding fault_of fault_by illegal pick
   bot_fine f = rw (f.calm, f.mode, f.loaded)
 
-  write_fine : Fit p d Idle → d.protected ≡ false → d.head + 1541 ≤ length t → fault_of here Write ≡ Fine
+  write_fine : Fit p d Idle → d.protected ≡ false → d.head + 1541 ≤ length t → fault_of here (Some Write) ≡ Ok tt
   unfolding fault_of fault_by illegal pick
   write_fine f o r = rw (f.calm, f.mode, f.online, f.loaded, o, le-leb (d.head + 514) (length t) (omega (arith, r)))
 
-  mark_fine : Fit p d Writing → d.protected ≡ false → d.head + 1 ≤ length t → fault_of here WriteMark ≡ Fine
+  mark_fine : Fit p d Writing → d.protected ≡ false → d.head + 1 ≤ length t → fault_of here (Some WriteMark) ≡ Ok tt
   unfolding fault_of fault_by illegal pick
   mark_fine f o r = rw (f.calm, f.mode, f.online, f.loaded, o, le-leb (d.head + 1) (length t) r)
 
-  read_fine : Fit p d Idle → fault_of here Read ≡ Fine
+  read_fine : Fit p d Idle → fault_of here (Some Read) ≡ Ok tt
   unfolding fault_of fault_by illegal pick
   read_fine f = rw (f.calm, f.mode, f.online, f.loaded)
 
-  pass_fine : Fit p d Idle → fault_of here ReadMark ≡ Fine
+  pass_fine : Fit p d Idle → fault_of here (Some ReadMark) ≡ Ok tt
   unfolding fault_of fault_by illegal pick
   pass_fine f = rw (f.calm, f.mode, f.online, f.loaded)
 
   pub bot_moves : (w : World) (g : List ℕ) → Sits w g here → Fit p d Idle
       → Moves w (1 ∷ 33 ∷ []) g (leaves false (at_phase Rest p) (rewound d) t)
-  bot_moves w g k f = order_moves w g 33 Bot k orders.bot (bot_fine f) refl
+  bot_moves w g k f = order_moves w g 33 (Some Bot) k orders.bot (bot_fine f) refl
 
   pub write_moves : (w : World) (g : List ℕ) → Sits w g here → Fit p d Idle → d.protected ≡ false → d.head + 1541 ≤ length t
       → Moves w (1 ∷ 64 ∷ []) g (leaves false (at_phase Rest p) (in_mode Writing d) t)
-  write_moves w g k f o r = rw (none_late d.head (length t) r) at (order_moves w g 64 Write k orders.write (write_fine f o r) refl)
+  write_moves w g k f o r = rw (none_late d.head (length t) r) at (order_moves w g 64 (Some Write) k orders.write (write_fine f o r) refl)
 
   pub mark_moves : (w : World) (g : List ℕ) → Sits w g here → Fit p d Writing → d.protected ≡ false → d.head + 1 ≤ length t
       → Moves w (1 ∷ 96 ∷ []) g (leaves false (at_phase Rest p) (in_mode Idle (made (d.head + 1) d)) (recorded t d.head mark_record))
-  mark_moves w g k f o r = order_moves w g 96 WriteMark k orders.mark (mark_fine f o r) refl
+  mark_moves w g k f o r = order_moves w g 96 (Some WriteMark) k orders.mark (mark_fine f o r) refl
 
   read_moves : (w : World) (g : List ℕ) → Sits w g here → Fit p d Idle
       → Moves w (1 ∷ 128 ∷ []) g (leaves (checked t (in_mode Reading d)).raised (at_phase Rest p) (checked t (in_mode Reading d)).drive t)
-  read_moves w g k f = order_moves w g 128 Read k orders.read (read_fine f) refl
+  read_moves w g k f = order_moves w g 128 (Some Read) k orders.read (read_fine f) refl
 
-  pub read_at_block : (w : World) (g : List ℕ) → Sits w g here → Fit p d Idle → found_at t d.head ≡ Block
+  pub read_at_block : (w : World) (g : List ℕ) → Sits w g here → Fit p d Idle → found_at t d.head ≡ Ok Block
       → Moves w (1 ∷ 128 ∷ []) g (leaves false (at_phase Rest p) (in_mode Reading d) t)
   unfolding checked
   read_at_block w g k f b = rw b at (read_moves w g k f)
 
-  pub read_at_mark : (w : World) (g : List ℕ) → Sits w g here → Fit p d Idle → found_at t d.head ≡ Mark
+  pub read_at_mark : (w : World) (g : List ℕ) → Sits w g here → Fit p d Idle → found_at t d.head ≡ Ok Mark
       → Moves w (1 ∷ 128 ∷ []) g (leaves true (at_phase Rest p) (stopping Fil (passed_to (d.head + 1) d)) t)
   unfolding checked
   read_at_mark w g k f b = rw b at (read_moves w g k f)
 
-  pub pass_moves : (w : World) (g : List ℕ) (at : ℕ) → Sits w g here → Fit p d Idle → passed t d.head ≡ Past at
+  pub pass_moves : (w : World) (g : List ℕ) (at : ℕ) → Sits w g here → Fit p d Idle → passed t d.head ≡ Ok at
       → Moves w (1 ∷ 160 ∷ []) g (leaves true (at_phase Rest p) (stopping Fil (passed_to at d)) t)
-  pass_moves w g at k f e = rw e at (order_moves w g 160 ReadMark k orders.pass (pass_fine f) refl)
+  pass_moves w g at k f e = rw e at (order_moves w g 160 (Some ReadMark) k orders.pass (pass_fine f) refl)
 
   pub status_moves : (w : World) (g : List ℕ) → Sits w g here
       → Moves w (1 ∷ 192 ∷ []) g (leaves false (showing (octets_of d) (at_phase Rest p)) (cleared d) t)
-  status_moves w g k = order_moves w g 192 ReadStatus k orders.status (status_passes here) refl
+  status_moves w g k = order_moves w g 192 (Some ReadStatus) k orders.status (status_passes here) refl
 
   falls : (online exception loaded : Bool) (m : Mode) → online ≡ true → exception ≡ false → loaded ≡ true → m ≡ Idle
       → pick online (pick exception (leaves false (at_level false p) (in_mode Idle d) t) (pick loaded (leaving here m) (levelled false here))) (levelled false here)

@@ -6,6 +6,7 @@ use mathlib.Core.List.{List, [], ◌∷◌}
 use native.Mathlib.Omega.{arith}
 use lib.Dec.{eqb}
 use lib.ListN.{set}
+use Rattle.std.specs.Prelude.{Result, Ok, Err, Option, Some}
 use Rattle.basis.specs.Choice.{pick}
 use Rattle.tape.specs.Record.{mark_record}
 use Rattle.tape.specs.Recording.{recorded}
@@ -21,7 +22,7 @@ use Rattle.rules.specs.declared.event.Event.TheVariants.{Named, Own}
 use Rattle.rules.specs.declared.order.Order.{Order}
 use Rattle.rules.specs.declared.order.Order.TheVariants.{WriteMark}
 use Rattle.rules.specs.declared.order.Fault.{Fault}
-use Rattle.rules.specs.declared.order.Fault.TheVariants.{Fine, Illegal, Empty, Plugged, Full}
+use Rattle.rules.specs.declared.order.Fault.TheVariants.{Illegal, Empty, Plugged, Full}
 use Rattle.rules.specs.declared.answer.Answer.TheVariants.{Taken, Raised}
 use Rattle.rules.specs.Drive.{counted}
 use Rattle.rules.specs.Unit.{Lent, Whole, drive_at, tape_at}
@@ -51,11 +52,11 @@ stays_latched [] w i r k u h = h
 stays_latched (e ∷ es) w i r k (n, s, u) h =
     stays_latched es (after w e) i r (staging_stays_whole w.core w.lent e k) u ((cleared_only w.core w.lent e i r k n s).bits.cni h)
 
-pulled_latches : (w : World) (i : ℕ) (e : List ℕ) → event_of e ≡ Named i Out → (turn_of w e).answer ≡ Raised
+pulled_latches : (w : World) (i : ℕ) (e : List ℕ) → event_of e ≡ Some (Named i Out) → (turn_of w e).answer ≡ Raised
     → (drive_at (after w e).core i).latched.cni ≡ true
 unfolding after turn_of
 pulled_latches w i e q h =
-    effect_by (λ s. (drive_at s.turn.core i).latched.cni ≡ true) w.core w.lent e (Named i Out) q (rw h) (λ _ _ _. rw put_same)
+    effect_by (λ s. (drive_at s.turn.core i).latched.cni ≡ true) w.core w.lent e (Some (Named i Out)) q (rw h) (λ _ _ _. rw put_same)
 
 bit_most : (w : ℕ) (b : Bool) → bit w b ≤ w
 bit_most w true = omega arith
@@ -87,11 +88,11 @@ record Counted (c : Core) (i : ℕ) (mine others : Drive → ℕ) (s : Stepped) 
   count : mine (drive_at s.turn.core i) ≡ counted (mine (drive_at c i))
   beside : others (drive_at s.turn.core i) ≡ others (drive_at c i)
 
-count_waits : (w : World) (i : ℕ) (e : List ℕ) (what : What) (mine others : Drive → ℕ) → event_of e ≡ Named i what → (turn_of w e).answer ≡ Taken
-    → Counted w.core i mine others (effect_of w.core w.lent (Named i what)) → CountWaits w e i mine others
+count_waits : (w : World) (i : ℕ) (e : List ℕ) (what : What) (mine others : Drive → ℕ) → event_of e ≡ Some (Named i what) → (turn_of w e).answer ≡ Taken
+    → Counted w.core i mine others (effect_of w.core w.lent (Some (Named i what))) → CountWaits w e i mine others
 unfolding after turn_of
 count_waits w i e what mine others q h c =
-    let r = effect_by (Counted w.core i mine others) w.core w.lent e (Named i what) q (rw h) (λ _ _ _. c) in
+    let r = effect_by (Counted w.core i mine others) w.core w.lent e (Some (Named i what)) q (rw h) (λ _ _ _. c) in
     record { port = r.port; count = r.count; beside = r.beside }
 
 pub underrun_waits : UnderrunWaits
@@ -111,7 +112,7 @@ record Placed (l : Lent) (b : ℕ) (s : Stepped) : Type 0 where
 pub first_byte_first : FirstByteFirst
 unfolding after turn_of pick staged_byte
 first_byte_first w b e q h r =
-    let p = effect_by (Placed w.lent b) w.core w.lent e (Own (Give b)) q (rw h) (λ _ _ _. record { staging = rw r; phase = rw r }) in
+    let p = effect_by (Placed w.lent b) w.core w.lent e (Some (Own (Give b))) q (rw h) (λ _ _ _. record { staging = rw r; phase = rw r }) in
     record { staging = p.staging; phase = p.phase }
 
 pub offline_rewinds_no_other : OfflineRewindsNoOther
@@ -126,20 +127,20 @@ record Marked (c : Core) (l : Lent) (s : Stepped) : Type 0 where
   selected : s.turn.core.port.selected ≡ c.port.selected
   mode : (drive_at s.turn.core c.port.selected).mode ≡ Idle
 
-landed_marks : (c : Core) (l : Lent) (f : Fault) → (landed c l (commanded (seat_of c l) WriteMark f)).turn.answer ≡ Taken
-    → Marked c l (landed c l (commanded (seat_of c l) WriteMark f))
+landed_marks : (c : Core) (l : Lent) (f : Result (Unit {0}) Fault) → (landed c l (commanded (seat_of c l) (Some WriteMark) f)).turn.answer ≡ Taken
+    → Marked c l (landed c l (commanded (seat_of c l) (Some WriteMark) f))
 unfolding pick
-landed_marks c l Fine h = record { tape = rw put_same; selected = refl; mode = rw put_same }
-landed_marks c l Illegal h = record { tape = cc; selected = cc; mode = cc }
-landed_marks c l Empty h = record { tape = cc; selected = cc; mode = cc }
-landed_marks c l Plugged h = record { tape = cc; selected = cc; mode = cc }
-landed_marks c l Full h = record { tape = cc; selected = cc; mode = cc }
+landed_marks c l (Ok u) h = record { tape = rw put_same; selected = refl; mode = rw put_same }
+landed_marks c l (Err Illegal) h = record { tape = cc; selected = cc; mode = cc }
+landed_marks c l (Err Empty) h = record { tape = cc; selected = cc; mode = cc }
+landed_marks c l (Err Plugged) h = record { tape = cc; selected = cc; mode = cc }
+landed_marks c l (Err Full) h = record { tape = cc; selected = cc; mode = cc }
 
-marks : (c : Core) (l : Lent) → (effect_of c l (Own (Command 96))).turn.answer ≡ Taken → Marked c l (effect_of c l (Own (Command 96)))
+marks : (c : Core) (l : Lent) → (effect_of c l (Some (Own (Command 96)))).turn.answer ≡ Taken → Marked c l (effect_of c l (Some (Own (Command 96))))
 marks c l =
-    subst (λ (o : Order). (landed c l (commanded (seat_of c l) o (fault_of (seat_of c l) o))).turn.answer ≡ Taken
+    subst (λ (o : Option Order). (landed c l (commanded (seat_of c l) o (fault_of (seat_of c l) o))).turn.answer ≡ Taken
     → Marked c l (landed c l (commanded (seat_of c l) o (fault_of (seat_of c l) o))))
-    (sym orders.mark) (landed_marks c l (fault_of (seat_of c l) WriteMark))
+    (sym orders.mark) (landed_marks c l (fault_of (seat_of c l) (Some WriteMark)))
 
 -- an Idle drive records nothing when ONLINE drops
 idle_keeps : (g : List ℕ) (s : Seat) (m : Acted) → Acts.Does g s Offline m → s.drive.mode ≡ Idle → m.tape ≡ s.tape
@@ -149,21 +150,21 @@ idle_keeps g s m Acts.goes_home i = refl
 idle_keeps g s m (Acts.leaves_mark u x w r) i = cc
 idle_keeps g s m Acts.has_no_room i = refl
 
-idle_drop : (c : Core) (l : Lent) (event : List ℕ) → Whole l → event_of event ≡ Own Offline → (drive_at c c.port.selected).mode ≡ Idle
+idle_drop : (c : Core) (l : Lent) (event : List ℕ) → Whole l → event_of event ≡ Some (Own Offline) → (drive_at c c.port.selected).mode ≡ Idle
     → tape_at (step_of c l event).lent c.port.selected ≡ tape_at l c.port.selected
 idle_drop c l event k q i =
     step_sound (λ s. tape_at s.lent c.port.selected ≡ tape_at l c.port.selected) c l event k (λ _ _. refl) (go (event_of event) q)
   where
-    go : (e : Event) → e ≡ Own Offline → Sound c l → refusal_in c e ≡ Taken → tape_at (effect_of c l e).lent c.port.selected ≡ tape_at l
+    go : (e : Option Event) → e ≡ Some (Own Offline) → Sound c l → refusal_in c e ≡ Taken → tape_at (effect_of c l e).lent c.port.selected ≡ tape_at l
         c.port.selected
     go e z s h =
-        subst (λ (x : Event). refusal_in c x ≡ Taken → tape_at (effect_of c l x).lent c.port.selected ≡ tape_at l c.port.selected) (sym z)
+        subst (λ (x : Option Event). refusal_in c x ≡ Taken → tape_at (effect_of c l x).lent c.port.selected ≡ tape_at l c.port.selected) (sym z)
         (λ r. rw put_same (idle_keeps l.staging (seat_of c l) _ (own_does c l Offline s r) i)) h
 
 pub one_mark_only : OneMarkOnly
 unfolding after turn_of
 one_mark_only w k e f q h p =
-    let m = effect_by (λ s. s.turn.answer ≡ Taken → Marked w.core w.lent s) w.core w.lent e (Own (Command 96)) q (rw h)
+    let m = effect_by (λ s. s.turn.answer ≡ Taken → Marked w.core w.lent s) w.core w.lent e (Some (Own (Command 96))) q (rw h)
     (λ _ _ _. marks w.core w.lent) h in
     let n = w.core.port.selected in
     let x = after w e in

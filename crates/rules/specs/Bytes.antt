@@ -1,7 +1,8 @@
 -- Bytes given by the host and bytes taken by it.
-use Rattle.std.specs.Prelude.{ℕ, ◌+◌, ◌-◌, true, false, List, length, get_or, set, ltb, leb}
+use Rattle.std.specs.Prelude.{ℕ, ◌+◌, ◌-◌, true, false, List, length, get_or, set, ltb, leb, Result}
 use Rattle.basis.specs.Choice.{pick}
-use Rattle.tape.specs.declared.found.Found.{Found}
+use Rattle.tape.specs.declared.found.Kind.{Kind}
+use Rattle.tape.specs.declared.found.Why.{Why}
 use Rattle.tape.specs.Record.{found_at, body_size, block_size}
 use Rattle.rules.specs.declared.drive.Drive.{Drive}
 use Rattle.rules.specs.declared.drive.Bit.TheVariants.{Eom}
@@ -56,7 +57,7 @@ abbrev pub first_taken : Seat → Checked → Acted
 first_taken s c = pick c.raised (leaves true (resting s) c.drive s.tape) (handed s 0)
 
 -- In the middle of a block the record is looked at anew: where it is no whole block any more, it is a bad one.
-abbrev pub next_taken : Seat → ℕ → Found → Acted
+abbrev pub next_taken : Seat → ℕ → Result Kind Why → Acted
 next_taken s n f = pick (is_block f) (handed s n) (leaves true (resting s) (halted (spoilt f) s.drive) s.tape)
 
 -- The place of the next octet where k are outstanding, and the phase after it.

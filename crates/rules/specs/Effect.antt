@@ -1,5 +1,5 @@
 -- Effects of the orders, on what the selected drive sees and on nothing else.
-use Rattle.std.specs.Prelude.{ℕ, ◌+◌, Bool, true, false, List, length}
+use Rattle.std.specs.Prelude.{ℕ, ◌+◌, Bool, true, false, List, length, Result, Ok, Err, Option, None, Some}
 use Rattle.tape.specs.Record.{mark_size, mark_record, block_record}
 use Rattle.tape.specs.Recording.{recorded, erased}
 use Rattle.tape.specs.Walk.{passed}
@@ -10,9 +10,9 @@ use Rattle.rules.specs.declared.unit.Port.{Port}
 use Rattle.rules.specs.declared.phase.Phase.TheVariants.{Rest}
 use Rattle.rules.specs.declared.unit.Moved.{Moved}
 use Rattle.rules.specs.declared.order.Order.{Order}
-use Rattle.rules.specs.declared.order.Order.TheVariants.{NoOrder, Select, Bot, Erase, Initialize, Write, WriteMark, Read, ReadMark, ReadStatus}
+use Rattle.rules.specs.declared.order.Order.TheVariants.{Select, Bot, Erase, Initialize, Write, WriteMark, Read, ReadMark, ReadStatus}
 use Rattle.rules.specs.declared.order.Fault.{Fault}
-use Rattle.rules.specs.declared.order.Fault.TheVariants.{Fine, Illegal, Empty, Plugged, Full}
+use Rattle.rules.specs.declared.order.Fault.TheVariants.{Illegal, Empty, Plugged, Full}
 use Rattle.rules.specs.Drive.{rewound, chosen, raised, latching, stopping, in_mode, made, cleared}
 use Rattle.rules.specs.Late.{begun}
 use Rattle.rules.specs.Unit.{at_phase, at_drive, showing}
@@ -39,10 +39,10 @@ acted m t = record { moved = m; tape = t }
 
 -- Without a byte, and with one; `r` says that a rule raised EXCEPTION.
 abbrev pub leaves : Bool → Port → Drive → List ℕ → Acted
-leaves r p d t = acted (record { raised = r; given = false; byte = 0; port = p; drive = d }) t
+leaves r p d t = acted (record { raised = r; byte = None; port = p; drive = d }) t
 
 abbrev pub hands : Bool → ℕ → Port → Drive → List ℕ → Acted
-hands r b p d t = acted (record { raised = r; given = true; byte = b; port = p; drive = d }) t
+hands r b p d t = acted (record { raised = r; byte = Some b; port = p; drive = d }) t
 
 -- The tape with a mark, or with the block g, recorded where the head stands.
 abbrev pub with_mark : Drive → List ℕ → List ℕ
@@ -56,28 +56,28 @@ abbrev pub resting : Seat → Port
 resting s = at_phase Rest s.port
 
 -- What each order does once it has passed the tests: whether it raises EXCEPTION, and what it leaves of port, record and tape.
-abbrev pub ordered : Seat → Order → Acted
-ordered s NoOrder = leaves false (resting s) s.drive s.tape
-ordered s (Select n) = leaves false (at_drive n s.port) (chosen s.drive) s.tape
-ordered s Bot = leaves false (resting s) (rewound s.drive) s.tape
-ordered s Erase = leaves false (resting s) (rewound s.drive) (erased s.tape)
-ordered s Initialize = leaves false (resting s) (rewound s.drive) s.tape
-ordered s Write = leaves false (resting s) (begun (length s.tape) s.drive) s.tape
-ordered s WriteMark =
+abbrev pub ordered : Seat → Option Order → Acted
+ordered s None = leaves false (resting s) s.drive s.tape
+ordered s (Some (Select n)) = leaves false (at_drive n s.port) (chosen s.drive) s.tape
+ordered s (Some Bot) = leaves false (resting s) (rewound s.drive) s.tape
+ordered s (Some Erase) = leaves false (resting s) (rewound s.drive) (erased s.tape)
+ordered s (Some Initialize) = leaves false (resting s) (rewound s.drive) s.tape
+ordered s (Some Write) = leaves false (resting s) (begun (length s.tape) s.drive) s.tape
+ordered s (Some WriteMark) =
     leaves false (resting s) (in_mode Idle (made (s.drive.head + mark_size) s.drive)) (with_mark s.drive s.tape)
-ordered s Read =
+ordered s (Some Read) =
     leaves (checked s.tape (in_mode Reading s.drive)).raised (resting s) (checked s.tape (in_mode Reading s.drive)).drive s.tape
-ordered s ReadMark = leaves true (resting s) (standing (passed s.tape s.drive.head) s.drive) s.tape
-ordered s ReadStatus = leaves false (showing (octets_of s.drive) s.port) (cleared s.drive) s.tape
+ordered s (Some ReadMark) = leaves true (resting s) (standing (passed s.tape s.drive.head) s.drive) s.tape
+ordered s (Some ReadStatus) = leaves false (showing (octets_of s.drive) s.port) (cleared s.drive) s.tape
 
 -- The test that fits an order in a seat.
-unfoldable pub fault_of : Seat → Order → Fault
+unfoldable pub fault_of : Seat → Option Order → Result (Unit {0}) Fault
 fault_of s o = fault_by s.port.online s.drive (length s.tape) (needs_of o)
 
 -- 1 to 4 latch ILL, 5 CNI, 6 raises EXCEPTION alone, 7 latches EOM and makes the mode Idle. All leave head and tape.
-abbrev pub commanded : Seat → Order → Fault → Acted
-commanded s o Fine = ordered s o
-commanded s o Illegal = leaves true (resting s) (latching Ill s.drive) s.tape
-commanded s o Empty = leaves true (resting s) (latching Cni s.drive) s.tape
-commanded s o Plugged = leaves true (resting s) (raised s.drive) s.tape
-commanded s o Full = leaves true (resting s) (stopping Eom s.drive) s.tape
+abbrev pub commanded : Seat → Option Order → Result (Unit {0}) Fault → Acted
+commanded s o (Ok u) = ordered s o
+commanded s o (Err Illegal) = leaves true (resting s) (latching Ill s.drive) s.tape
+commanded s o (Err Empty) = leaves true (resting s) (latching Cni s.drive) s.tape
+commanded s o (Err Plugged) = leaves true (resting s) (raised s.drive) s.tape
+commanded s o (Err Full) = leaves true (resting s) (stopping Eom s.drive) s.tape

@@ -1,4 +1,5 @@
 pub mod Drive
+pub mod Counter
 pub mod Late
 pub mod Phase
 pub mod Unit

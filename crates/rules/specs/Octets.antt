@@ -34,18 +34,24 @@ abbrev pub bit : ℕ → Bool → ℕ
 bit weight true = weight
 bit weight false = 0
 
--- The halves of each counter; the errors come before the underruns, high half first.
+-- The halves of a counter's number, then of each counter; the errors come before the underruns, high half first.
+abbrev pub high : ℕ → ℕ
+high n = n / 256
+
+abbrev pub low : ℕ → ℕ
+low n = n % 256
+
 abbrev pub errors_high : Errors → ℕ
-errors_high e = e.0 / 256
+errors_high e = high e.0
 
 abbrev pub errors_low : Errors → ℕ
-errors_low e = e.0 % 256
+errors_low e = low e.0
 
 abbrev pub underruns_high : Underruns → ℕ
-underruns_high n = n.0 / 256
+underruns_high n = high n.0
 
 abbrev pub underruns_low : Underruns → ℕ
-underruns_low n = n.0 % 256
+underruns_low n = low n.0
 
 -- Octets 1 and 0 as section 5 of QIC-02 Rev D lists them, a line for each bit from bit 0 to bit 7: its name, its place, where it comes from.
 -- A name of document 01 that differs stands behind the standard's: RES is ERM and BPE, UDA is UDE. A bit that is never set comes from `false`.

@@ -1,13 +1,12 @@
 -- What reaches a drive, and what it gave.
-use Rattle.std.specs.Prelude.{ℕ, Bool, true, false, not, ◌&&◌, ◌||◌, List, [], ◌∷◌, eqb}
-use Rattle.std.proofs.Math.Option.{Option, none, some}
+use Rattle.std.specs.Prelude.{ℕ, Bool, true, false, not, ◌&&◌, ◌||◌, List, [], ◌∷◌, eqb, Option, None, Some}
 use Rattle.basis.specs.Choice.{pick}
 use Rattle.rules.specs.declared.event.Act.{Act}
 use Rattle.rules.specs.declared.event.Act.TheVariants.{Command, Give, Take, Online, Offline}
 use Rattle.rules.specs.declared.event.Event.{Event}
-use Rattle.rules.specs.declared.event.Event.TheVariants.{NoEvent, Reset, Named, Own}
+use Rattle.rules.specs.declared.event.Event.TheVariants.{Reset, Named, Own}
 use Rattle.rules.specs.declared.order.Order.{Order}
-use Rattle.rules.specs.declared.order.Order.TheVariants.{NoOrder, Select, Bot, Erase, Initialize, Write, WriteMark, Read, ReadMark, ReadStatus}
+use Rattle.rules.specs.declared.order.Order.TheVariants.{Select, Bot, Erase, Initialize, Write, WriteMark, Read, ReadMark, ReadStatus}
 use Rattle.rules.specs.declared.answer.Answer.{Answer}
 use Rattle.rules.specs.declared.answer.Lines.{Lines}
 use Rattle.rules.specs.declared.answer.Turn.{Turn}
@@ -17,17 +16,17 @@ use Rattle.rules.specs.Order.{order_of}
 use Rattle.rules.specs.Run.{World, after, turn_of}
 
 -- A SELECT of drive d.
-abbrev pub is_select_of : ℕ → Order → Bool
-is_select_of d NoOrder = false
-is_select_of d (Select n) = eqb n d
-is_select_of d Bot = false
-is_select_of d Erase = false
-is_select_of d Initialize = false
-is_select_of d Write = false
-is_select_of d WriteMark = false
-is_select_of d Read = false
-is_select_of d ReadMark = false
-is_select_of d ReadStatus = false
+abbrev pub is_select_of : ℕ → Option Order → Bool
+is_select_of d None = false
+is_select_of d (Some (Select n)) = eqb n d
+is_select_of d (Some Bot) = false
+is_select_of d (Some Erase) = false
+is_select_of d (Some Initialize) = false
+is_select_of d (Some Write) = false
+is_select_of d (Some WriteMark) = false
+is_select_of d (Some Read) = false
+is_select_of d (Some ReadMark) = false
+is_select_of d (Some ReadStatus) = false
 
 abbrev pub selects : ℕ → Act → Bool
 selects d (Command c) = is_select_of d (order_of c)
@@ -60,11 +59,11 @@ accepted a = eqb (row_of a).number 0
 -- Whether an event reaches drive d, by what was selected and the level before it, and by its answer.
 -- An event that names a drive reaches that one alone;
 -- an act reaches the drive it is for, and any drive whose level it changes or that it selects.
-abbrev pub reaches_by : Change → ℕ → ℕ → Bool → Answer → Event → Bool
-reaches_by r d selected level a NoEvent = eqb selected d
-reaches_by r d selected level a Reset = true
-reaches_by r d selected level a (Named i w) = eqb i d
-reaches_by r d selected level a (Own act) =
+abbrev pub reaches_by : Change → ℕ → ℕ → Bool → Answer → Option Event → Bool
+reaches_by r d selected level a None = eqb selected d
+reaches_by r d selected level a (Some Reset) = true
+reaches_by r d selected level a (Some (Named i w)) = eqb i d
+reaches_by r d selected level a (Some (Own act)) =
     eqb selected d || ((answered a && changes r act level) || (accepted a && selects d act))
 
 unfoldable pub reaches : Change → ℕ → World → List ℕ → Bool
@@ -73,8 +72,7 @@ reaches r d w e = reaches_by r d w.core.port.selected w.core.port.online (turn_o
 -- What the drive gave: lines and byte where it is selected after the event; the answer, but not of an ONLINE change while another drive is selected.
 pub record Shown : Type 0 where
   pub lines : Lines
-  pub given : Bool
-  pub byte : ℕ
+  pub byte : Option ℕ
 
 pub record Gave : Type 0 where
   pub answer : Option Answer
@@ -87,17 +85,17 @@ is_level Take = false
 is_level Online = true
 is_level Offline = true
 
-abbrev pub compared_away : Event → Bool
-compared_away NoEvent = true
-compared_away Reset = true
-compared_away (Named i w) = true
-compared_away (Own a) = not (is_level a)
+abbrev pub compared_away : Option Event → Bool
+compared_away None = true
+compared_away (Some Reset) = true
+compared_away (Some (Named i w)) = true
+compared_away (Some (Own a)) = not (is_level a)
 
-abbrev pub gave_by : ℕ → ℕ → Event → Turn → Gave
+abbrev pub gave_by : ℕ → ℕ → Option Event → Turn → Gave
 gave_by d selected e t =
     record {
-      answer = pick (eqb selected d || compared_away e) (some t.answer) none;
-      shown = pick (eqb t.core.port.selected d) (some (record { lines = t.lines; given = t.given; byte = t.byte })) none;
+      answer = pick (eqb selected d || compared_away e) (Some t.answer) None;
+      shown = pick (eqb t.core.port.selected d) (Some (record { lines = t.lines; byte = t.byte })) None;
     }
 
 unfoldable pub gave : ℕ → World → List ℕ → Gave

@@ -1,5 +1,5 @@
 -- What refuses an event: 5, 6, 4, 2, 3, tried in that order.
-use Rattle.std.specs.Prelude.{ℕ, Bool, true, false, not, ◌&&◌, ◌||◌, length, leb, eqb}
+use Rattle.std.specs.Prelude.{ℕ, Bool, true, false, not, ◌&&◌, ◌||◌, length, leb, eqb, Option, None, Some}
 use Rattle.basis.specs.Choice.{pick}
 use Rattle.tape.specs.Record.{longest}
 use Rattle.rules.specs.declared.drive.Drive.{Drive}
@@ -13,7 +13,7 @@ use Rattle.rules.specs.declared.event.Act.TheVariants.{Command, Give, Take, Onli
 use Rattle.rules.specs.declared.event.What.{What}
 use Rattle.rules.specs.declared.event.What.TheVariants.{In, Out, Error, Underrun}
 use Rattle.rules.specs.declared.event.Event.{Event}
-use Rattle.rules.specs.declared.event.Event.TheVariants.{NoEvent, Reset, Named, Own}
+use Rattle.rules.specs.declared.event.Event.TheVariants.{Reset, Named, Own}
 use Rattle.rules.specs.declared.answer.Answer.{Answer}
 use Rattle.rules.specs.declared.answer.Answer.TheVariants.{Taken, OutOfStep, WrongSlot, Malformed, Impossible, TooLong}
 use Rattle.rules.specs.Drive.{is_writing, is_reading, writes, reads}
@@ -90,15 +90,15 @@ slot_answer loaded Error = pick loaded Taken WrongSlot
 slot_answer loaded Underrun = pick loaded Taken WrongSlot
 
 -- What refuses an event in a possible record with short tapes; `Taken` where nothing does.
-abbrev pub refusal_in : Core → Event → Answer
-refusal_in c NoEvent = Malformed
-refusal_in c Reset = Taken
-refusal_in c (Named i w) = slot_answer (drive_at c i).loaded w
-refusal_in c (Own a) = pick (in_step_at c.port.phase (drive_at c c.port.selected) a) Taken OutOfStep
+abbrev pub refusal_in : Core → Option Event → Answer
+refusal_in c None = Malformed
+refusal_in c (Some Reset) = Taken
+refusal_in c (Some (Named i w)) = slot_answer (drive_at c i).loaded w
+refusal_in c (Some (Own a)) = pick (in_step_at c.port.phase (drive_at c c.port.selected) a) Taken OutOfStep
 
 -- 5 before 6, and 6 before the others.
 abbrev pub refusal_by : Bool → Bool → Answer → Answer
 refusal_by possible short a = pick possible (pick short a TooLong) Impossible
 
-unfoldable pub refusal_of : Core → Lent → Event → Answer
+unfoldable pub refusal_of : Core → Lent → Option Event → Answer
 refusal_of c l e = refusal_by (possible c) (short l) (refusal_in c e)

@@ -1,5 +1,5 @@
 -- One event: first whether it is refused, then what it does.
-use Rattle.std.specs.Prelude.{ℕ, ◌≡◌, Bool, true, false, List, eqb}
+use Rattle.std.specs.Prelude.{ℕ, ◌≡◌, Bool, true, false, List, eqb, Option, None, Some}
 use Rattle.basis.specs.Choice.{pick}
 use Rattle.rules.specs.declared.phase.Phase.{Phase}
 use Rattle.rules.specs.declared.unit.Core.{Core}
@@ -7,7 +7,7 @@ use Rattle.rules.specs.declared.event.Act.{Act}
 use Rattle.rules.specs.declared.event.Act.TheVariants.{Command, Give, Take, Online, Offline}
 use Rattle.rules.specs.declared.event.What.{What}
 use Rattle.rules.specs.declared.event.Event.{Event}
-use Rattle.rules.specs.declared.event.Event.TheVariants.{NoEvent, Reset, Named, Own}
+use Rattle.rules.specs.declared.event.Event.TheVariants.{Reset, Named, Own}
 use Rattle.rules.specs.declared.answer.Answer.{Answer}
 use Rattle.rules.specs.declared.answer.Answer.TheVariants.{Taken, Raised}
 use Rattle.rules.specs.declared.answer.Turn.{Turn}
@@ -48,15 +48,15 @@ abbrev pub stepped : Turn → Lent → Stepped
 stepped r l = record { turn = r; lent = l }
 
 -- Taken: answer 1 where a rule raised EXCEPTION on a drive, else 0.
-abbrev pub taken_turn : Bool → Bool → ℕ → Core → Turn
-taken_turn raised given byte c = record { answer = pick raised Raised Taken; given = given; byte = byte; lines = lines_of c; core = c }
+abbrev pub taken_turn : Bool → Option ℕ → Core → Turn
+taken_turn raised byte c = record { answer = pick raised Raised Taken; byte = byte; lines = lines_of c; core = c }
 
-abbrev pub done : Bool → Bool → ℕ → Core → Lent → Stepped
-done raised given byte c l = stepped (taken_turn raised given byte c) l
+abbrev pub done : Bool → Option ℕ → Core → Lent → Stepped
+done raised byte c l = stepped (taken_turn raised byte c) l
 
 -- Refused: all as found, no byte; after 5 the three lines are down.
 abbrev pub refused_turn : Answer → Core → Turn
-refused_turn a c = record { answer = a; given = false; byte = 0; lines = pick (row_of a).lines_down lines_down (lines_of c); core = c }
+refused_turn a c = record { answer = a; byte = None; lines = pick (row_of a).lines_down lines_down (lines_of c); core = c }
 
 abbrev pub refused : Answer → Core → Lent → Stepped
 refused a c l = stepped (refused_turn a c) l
@@ -67,7 +67,7 @@ seat_of c l = seat c.port (drive_at c c.port.selected) (tape_at l c.port.selecte
 
 abbrev pub landed : Core → Lent → Acted → Stepped
 landed c l m =
-    done m.moved.raised m.moved.given m.moved.byte (put_drive c m.moved.port c.port.selected m.moved.drive)
+    done m.moved.raised m.moved.byte (put_drive c m.moved.port c.port.selected m.moved.drive)
     (put_tape l c.port.selected m.tape)
 
 -- An act of the host: the byte staged first, then the act of the selected drive.
@@ -83,16 +83,16 @@ befallen_at c i w =
     put_drive c (at_phase (phase_after w (eqb i c.port.selected) c.port.phase) c.port) i (befallen w (drive_at c i))
 
 -- What an event does where nothing refuses it.
-abbrev pub effect_of : Core → Lent → Event → Stepped
-effect_of c l NoEvent = done false false 0 c l
-effect_of c l Reset = done true false 0 (reset_core c) l
-effect_of c l (Named i w) = done (is_out w) false 0 (befallen_at c i w) l
-effect_of c l (Own a) = owned c (staged_in c a l) a
+abbrev pub effect_of : Core → Lent → Option Event → Stepped
+effect_of c l None = done false None c l
+effect_of c l (Some Reset) = done true None (reset_core c) l
+effect_of c l (Some (Named i w)) = done (is_out w) None (befallen_at c i w) l
+effect_of c l (Some (Own a)) = owned c (staged_in c a l) a
 
-abbrev pub settled : Core → Lent → Event → Answer → Stepped
+abbrev pub settled : Core → Lent → Option Event → Answer → Stepped
 settled c l e a = pick (row_of a).refuses (refused a c l) (effect_of c l e)
 
-unfoldable pub step_by : Core → Lent → Event → Stepped
+unfoldable pub step_by : Core → Lent → Option Event → Stepped
 step_by c l e = settled c l e (refusal_of c l e)
 
 unfoldable pub step_of : Core → Lent → List ℕ → Stepped

@@ -4,13 +4,8 @@ ghost use Rattle.rules.specs.Answer.{row_of};
 
 use crate::unit::{Core, Unit};
 
-// The numbers of the last answer that refuses nothing, and of the one that puts the lines down.
-const LAST_TAKEN: u8 = 1;
-
-const IMPOSSIBLE: u8 = 5;
-
 // Document 01's answers 0 to 6, in the order of their numbers.
-#[derive(Clone, Copy)]
+#[derive(Clone, Copy, Debug, PartialEq, Eq)]
 pub enum Answer {
     Taken,
     Raised,
@@ -26,29 +21,21 @@ impl Answer {
     pub fn number(self) -> u8
         ensures { result ≡ (row_of self).number }
     {
-        match self {
-            Answer::Taken => 0,
-            Answer::Raised => 1,
-            Answer::OutOfStep => 2,
-            Answer::WrongSlot => 3,
-            Answer::Malformed => 4,
-            Answer::Impossible => 5,
-            Answer::TooLong => 6,
-        }
+        self as u8
     }
 
     // All as found: every answer but 0 and 1.
     pub fn refuses(self) -> bool
         ensures { result ≡ (row_of self).refuses }
     {
-        LAST_TAKEN < self.number()
+        !matches!(self, Answer::Taken | Answer::Raised)
     }
 
     // The three lines down: after 5 alone.
     pub fn lines_down(self) -> bool
         ensures { result ≡ (row_of self).lines_down }
     {
-        self.number() == IMPOSSIBLE
+        matches!(self, Answer::Impossible)
     }
 }
 
@@ -64,8 +51,7 @@ pub struct Lines {
 pub struct Outcome {
     pub unit: Unit,
     pub answer: Answer,
-    pub given: bool,
-    pub byte: u8,
+    pub byte: Option<u8>,
     pub lines: Lines,
 }
 
@@ -74,7 +60,6 @@ pub struct Outcome {
 pub struct Turn {
     pub core: Core,
     pub answer: Answer,
-    pub given: bool,
-    pub byte: u8,
+    pub byte: Option<u8>,
     pub lines: Lines,
 }

@@ -1,10 +1,8 @@
 // One drive's record and its moves: each takes the record and hands it back changed.
 ghost use Rattle.std.specs.Prelude.{◌≡◌, ◌-◌};
 ghost use Rattle.rules.specs.Drive.{is_writing, is_reading, with_bit, no_bits, fresh_drive, was_reset, rewound, chosen, raised, latching, stopping};
-ghost use Rattle.rules.specs.Drive.{in_mode, allowing, made, passed_to, cleared, counted, error_counted, underrun_counted, loaded_with, pulled, writes, reads};
+ghost use Rattle.rules.specs.Drive.{in_mode, allowing, made, passed_to, cleared, counted, loaded_with, pulled, writes, reads};
 ghost use Rattle.rules.specs.Late.{one_less};
-
-use crate::HIGHEST;
 
 #[derive(Clone, Copy)]
 pub enum Mode {
@@ -17,21 +15,13 @@ impl Mode {
     pub fn is_writing(self) -> bool
         ensures { result ≡ is_writing self }
     {
-        match self {
-            Mode::Idle => false,
-            Mode::Writing => true,
-            Mode::Reading => false,
-        }
+        matches!(self, Mode::Writing)
     }
 
     pub fn is_reading(self) -> bool
         ensures { result ≡ is_reading self }
     {
-        match self {
-            Mode::Idle => false,
-            Mode::Writing => false,
-            Mode::Reading => true,
-        }
+        matches!(self, Mode::Reading)
     }
 }
 
@@ -48,7 +38,7 @@ pub enum Bit {
     Por,
 }
 
-#[derive(Clone, Copy)]
+#[derive(Clone, Copy, Default)]
 pub struct Latched {
     pub cni: bool,
     pub eom: bool,
@@ -85,64 +75,38 @@ impl Latched {
     pub fn none() -> Latched
         ensures { result ≡ no_bits }
     {
-        Latched {
-            cni: false,
-            eom: false,
-            ude: false,
-            bnl: false,
-            fil: false,
-            ill: false,
-            ndt: false,
-            por: false,
-        }
+        Latched::default()
     }
 
     pub fn with(self, b: Bit) -> Latched
         ensures { result ≡ with_bit b self }
     {
-        let mut l = self;
         match b {
-            Bit::Cni => {
-                l.cni = true;
-            }
-            Bit::Eom => {
-                l.eom = true;
-            }
-            Bit::Ude => {
-                l.ude = true;
-            }
-            Bit::Bnl => {
-                l.bnl = true;
-            }
-            Bit::Fil => {
-                l.fil = true;
-            }
-            Bit::Ill => {
-                l.ill = true;
-            }
-            Bit::Ndt => {
-                l.ndt = true;
-            }
-            Bit::Por => {
-                l.por = true;
-            }
+            Bit::Cni => Latched { cni: true, ..self },
+            Bit::Eom => Latched { eom: true, ..self },
+            Bit::Ude => Latched { ude: true, ..self },
+            Bit::Bnl => Latched { bnl: true, ..self },
+            Bit::Fil => Latched { fil: true, ..self },
+            Bit::Ill => Latched { ill: true, ..self },
+            Bit::Ndt => Latched { ndt: true, ..self },
+            Bit::Por => Latched { por: true, ..self },
         }
-        l
     }
 }
 
 // One more, up to the highest count and no further.
+#[tactic(auto, using(crate::proofs::Counters::counted_stops))]
 pub fn one_more(n: u16) -> u16
     ensures { result ≡ counted n }
 {
-    if n < HIGHEST { n + 1 } else { n }
+    n.saturating_add(1)
 }
 
 // One less, where there is one.
 pub fn less(n: u8) -> u8
     ensures { result ≡ n - 1 }
 {
-    if 0 < n { n - 1 } else { 0 }
+    n.saturating_sub(1)
 }
 
 impl Drive {
@@ -150,7 +114,6 @@ impl Drive {
     pub fn fresh() -> Drive
         ensures { result ≡ fresh_drive }
     {
-        let l = Latched::none().with(Bit::Por);
         Drive {
             loaded: false,
             protected: false,
@@ -158,66 +121,48 @@ impl Drive {
             mode: Mode::Idle,
             late: 0,
             exception: true,
-            latched: l,
+            latched: Latched::none().with(Bit::Por),
             errors: Errors(0),
             underruns: Underruns(0),
         }
     }
 
-    // Another mode, and with it no late block. The one place that writes the record anew, and that changes the mode.
+    // Another mode, and with it no late block. The one place that changes the mode.
     pub fn in_mode(self, mode: Mode) -> Drive
         ensures { result ≡ in_mode mode self }
     {
-        let latched = self.latched;
-        let errors = self.errors;
-        let underruns = self.underruns;
-        let late = 0;
-        Drive {
-            loaded: self.loaded,
-            protected: self.protected,
-            head: self.head,
-            mode,
-            late,
-            exception: self.exception,
-            latched,
-            errors,
-            underruns,
-        }
+        Drive { mode, ..self }.allow(0)
     }
 
     // So many late blocks still allowed.
     pub fn allow(self, late: u8) -> Drive
         ensures { result ≡ allowing late self }
     {
-        let mut d = self;
-        d.late = late;
-        d
+        Drive { late, ..self }
     }
 
     // A block recorded: one late block less.
     pub fn one_less(self) -> Drive
         ensures { result ≡ one_less self }
     {
-        let late = less(self.late);
-        self.allow(late)
+        self.allow(less(self.late))
     }
 
     // RESET: as fresh, but for the cartridge and its plug.
     pub fn reset(self) -> Drive
         ensures { result ≡ was_reset self }
     {
-        let mut d = Drive::fresh();
-        d.loaded = self.loaded;
-        d.protected = self.protected;
-        d
+        Drive {
+            loaded: self.loaded,
+            protected: self.protected,
+            ..Drive::fresh()
+        }
     }
 
     pub fn rewind(self) -> Drive
         ensures { result ≡ rewound self }
     {
-        let mut d = self;
-        d.head = 0;
-        d
+        Drive { head: 0, ..self }
     }
 
     // SELECT changes the selected drive's number only.
@@ -231,20 +176,21 @@ impl Drive {
     pub fn raise(self) -> Drive
         ensures { result ≡ raised self }
     {
-        let mut d = self;
-        d.exception = true;
-        d
+        Drive {
+            exception: true,
+            ..self
+        }
     }
 
     // A bit latched, with EXCEPTION up.
     pub fn latch(self, b: Bit) -> Drive
         ensures { result ≡ latching b self }
     {
-        let l = self.latched;
-        let m = l.with(b);
-        let mut d = self;
-        d.latched = m;
-        d.raise()
+        Drive {
+            latched: self.latched.with(b),
+            ..self
+        }
+        .raise()
     }
 
     // A bit latched by a rule that makes the mode Idle.
@@ -258,84 +204,64 @@ impl Drive {
     pub fn made(self, next: usize) -> Drive
         ensures { result ≡ made next self }
     {
-        let mut d = self;
-        d.head = next;
-        d
+        Drive { head: next, ..self }
     }
 
     // Records passed: the head where passing ended.
     pub fn pass_to(self, at: usize) -> Drive
         ensures { result ≡ passed_to at self }
     {
-        let mut d = self;
-        d.head = at;
-        d
+        Drive { head: at, ..self }
     }
 
     // READ STATUS has made its octets: latched bits, both counters and EXCEPTION cleared.
     pub fn clear_status(self) -> Drive
         ensures { result ≡ cleared self }
     {
-        let none = Latched::none();
-        let mut d = self;
-        d.exception = false;
-        d.latched = none;
-        d.errors.0 = 0;
-        d.underruns.0 = 0;
-        d
+        Drive {
+            exception: false,
+            latched: Latched::none(),
+            errors: Errors(0),
+            underruns: Underruns(0),
+            ..self
+        }
     }
 
     // Cartridge in, with its plug as given.
     pub fn load(self, protected: bool) -> Drive
         ensures { result ≡ loaded_with protected self }
     {
-        let mut d = self;
-        d.loaded = true;
-        d.protected = protected;
-        d.rewind()
+        Drive {
+            loaded: true,
+            protected,
+            ..self
+        }
+        .rewind()
     }
 
     // Cartridge out: CNI latched, EXCEPTION up.
     pub fn unload(self) -> Drive
         ensures { result ≡ pulled self }
     {
-        let mut d = self.stop(Bit::Cni);
-        d.loaded = false;
-        d.protected = false;
-        d.rewind()
-    }
-
-    pub fn count_error(self) -> Drive
-        ensures { result ≡ error_counted self }
-    {
-        let n = one_more(self.errors.0);
-        let mut d = self;
-        d.errors.0 = n;
-        d
-    }
-
-    pub fn count_underrun(self) -> Drive
-        ensures { result ≡ underrun_counted self }
-    {
-        let n = one_more(self.underruns.0);
-        let mut d = self;
-        d.underruns.0 = n;
-        d
+        Drive {
+            loaded: false,
+            protected: false,
+            ..self.stop(Bit::Cni)
+        }
+        .rewind()
     }
 
     // Writing without EXCEPTION: the drive takes data.
     pub fn writes(self) -> bool
         ensures { result ≡ writes self }
     {
-        let m = self.mode;
-        m.is_writing() & !self.exception
+        self.mode.is_writing() & !self.exception
     }
 
     // Reading without EXCEPTION: the drive gives data.
     pub fn reads(self) -> bool
         ensures { result ≡ reads self }
     {
-        let m = self.mode;
-        m.is_reading() & !self.exception
+        self.mode.is_reading() & !self.exception
     }
 }

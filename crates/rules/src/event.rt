@@ -21,7 +21,6 @@ pub enum What {
 
 #[derive(Clone, Copy)]
 pub enum Event {
-    NoEvent,
     Reset,
     Named(u8, What),
     Own(Act),

@@ -2,6 +2,7 @@
 #![tactic(auto)]
 
 mod answer;
+mod counter;
 mod drive;
 mod event;
 mod order;
@@ -9,6 +10,7 @@ mod phase;
 mod unit;
 
 pub use answer::{Answer, Lines, Outcome, Turn};
+pub use counter::Counter;
 pub use drive::{Bit, Drive, Errors, Latched, Mode, Underruns};
 pub use event::{Act, Event, What};
 pub use order::{Checked, Fault, Needs, Order};
@@ -30,6 +32,3 @@ pub const KEPT_LATE: usize = 1;
 pub const WRITE_ROOM: usize = tape::BLOCK_SIZE + KEPT_LATE;
 
 pub const LATE_BLOCKS: u8 = 2;
-
-// The highest count.
-pub const HIGHEST: u16 = 65535;

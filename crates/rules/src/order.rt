@@ -3,7 +3,6 @@ use crate::drive::Drive;
 
 #[derive(Clone, Copy)]
 pub enum Order {
-    NoOrder,
     Select(u8),
     Bot,
     Erase,
@@ -29,10 +28,9 @@ pub struct Needs {
     pub room: usize,
 }
 
-// The first test that fits: tests 1 to 4, test 5, test 6, test 7, or none.
+// The first test that fits: tests 1 to 4, test 5, test 6, test 7.
 #[derive(Clone, Copy)]
 pub enum Fault {
-    Fine,
     Illegal,
     Empty,
     Plugged,

@@ -15,17 +15,13 @@ impl Phase {
     pub fn at_rest(self) -> bool
         ensures { result ≡ at_rest self }
     {
-        if let Phase::Rest = self { true } else { false }
+        matches!(self, Phase::Rest)
     }
 
     pub fn is_status(self) -> bool
         ensures { result ≡ is_status self }
     {
-        if let Phase::Status(_) = self {
-            true
-        } else {
-            false
-        }
+        matches!(self, Phase::Status(_))
     }
 
     pub fn rest_or_status(self) -> bool

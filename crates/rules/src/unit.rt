@@ -38,8 +38,7 @@ pub struct Moved {
     pub port: Port,
     pub drive: Drive,
     pub raised: bool,
-    pub given: bool,
-    pub byte: u8,
+    pub byte: Option<u8>,
 }
 
 impl Port {
@@ -54,44 +53,41 @@ impl Port {
         }
     }
 
-    // Another phase. The one place that writes the port anew.
+    // Another phase. The one place that changes it.
     pub fn at_phase(self, phase: Phase) -> Port
         ensures { result ≡ at_phase phase self }
     {
-        let octets = self.octets;
-        Port {
-            selected: self.selected,
-            online: self.online,
-            phase,
-            octets,
-        }
+        Port { phase, ..self }
     }
 
     // ONLINE at another level, at Rest.
     pub fn at_level(self, online: bool) -> Port
         ensures { result ≡ at_level online self }
     {
-        let mut p = self.at_phase(Phase::Rest);
-        p.online = online;
-        p
+        Port {
+            online,
+            ..self.at_phase(Phase::Rest)
+        }
     }
 
     // Another drive selected, at Rest.
     pub fn at_drive(self, selected: u8) -> Port
         ensures { result ≡ at_drive selected self }
     {
-        let mut p = self.at_phase(Phase::Rest);
-        p.selected = selected;
-        p
+        Port {
+            selected,
+            ..self.at_phase(Phase::Rest)
+        }
     }
 
     // Six octets made, all of them outstanding.
     pub fn show(self, octets: [u8; OCTETS]) -> Port
         ensures { result ≡ showing octets self }
     {
-        let mut p = self.at_phase(Phase::Status(OCTETS));
-        p.octets = octets;
-        p
+        Port {
+            octets,
+            ..self.at_phase(Phase::Status(OCTETS))
+        }
     }
 }
 
@@ -99,10 +95,9 @@ impl Core {
     pub fn fresh() -> Core
         ensures { result ≡ fresh_core }
     {
-        let port = Port::fresh();
         let drive = Drive::fresh();
         Core {
-            port,
+            port: Port::fresh(),
             drive0: drive,
             drive1: drive,
             drive2: drive,
@@ -152,18 +147,12 @@ impl Core {
     pub fn reset(self) -> Core
         ensures { result ≡ reset_core self }
     {
-        let p = self.port;
-        let port = p.at_drive(0);
-        let drive0 = self.drive0.reset();
-        let drive1 = self.drive1.reset();
-        let drive2 = self.drive2.reset();
-        let drive3 = self.drive3.reset();
         Core {
-            port,
-            drive0,
-            drive1,
-            drive2,
-            drive3,
+            port: self.port.at_drive(0),
+            drive0: self.drive0.reset(),
+            drive1: self.drive1.reset(),
+            drive2: self.drive2.reset(),
+            drive3: self.drive3.reset(),
         }
     }
 }
@@ -173,9 +162,8 @@ impl Unit {
     pub fn fresh() -> Unit
         ensures { result ≡ fresh_unit }
     {
-        let core = Core::fresh();
         Unit {
-            core,
+            core: Core::fresh(),
             staging: [0; BODY],
         }
     }

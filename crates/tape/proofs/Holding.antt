@@ -6,8 +6,8 @@ use native.Mathlib.Omega.{arith}
 use native.Mathlib.Nat.{zero-add, suc-add, add-zero}
 use lib.ListN.{length, get_or, take, drop, length-append, length-take, length-drop}
 use lib.Seq.{take_at, drop_at, take-nil, take-take, take-add, drop-drop, get_or-take, get_or-drop, drop-cons, length-take-le}
-use Rattle.tape.specs.declared.found.Found.TheVariants.{Block, Mark}
-use Rattle.tape.specs.declared.pass.Passed.TheVariants.{Past}
+use Rattle.std.specs.Prelude.{Ok}
+use Rattle.tape.specs.declared.found.Kind.TheVariants.{Block, Mark}
 use Rattle.tape.specs.Record.{mark_record, block_record, found_at}
 use Rattle.tape.specs.Recording.{ended, recorded}
 use Rattle.tape.specs.Walk.{Trail, block, mark, start_of, trail, past_marks}
@@ -95,16 +95,16 @@ held_inside t bytes h l p = omega (arith, length-take (length bytes) (drop h t),
 pub held_block : HeldBlock
 held_block t body h e p =
     let n : h + 513 ≤ length t = omega (arith, e, held_inside t (block_record body) h (omega arith) p) in
-    case_found t h Block (whole_block n (rw add-zero at (held_byte t (block_record body) h 0 (omega arith) p)))
+    case_found t h (Ok Block) (whole_block n (rw add-zero at (held_byte t (block_record body) h 0 (omega arith) p)))
 
 pub held_mark : HeldMark
 held_mark t h p =
-    case_found t h Mark (one_mark (omega (arith, held_inside t mark_record h (omega arith) p)) (rw add-zero at (held_byte t mark_record h 0 (omega arith) p)))
+    case_found t h (Ok Mark) (one_mark (omega (arith, held_inside t mark_record h (omega arith) p)) (rw add-zero at (held_byte t mark_record h 0 (omega arith) p)))
 
 pub found_holds : FoundHolds
-found_holds t h f = go (found_case t h Block f)
+found_holds t h f = go (found_case t h (Ok Block) f)
   where
-    go : Stands t h Block → (length (body_at t h) ≡ 512) × Holds t h (block_record (body_at t h))
+    go : Stands t h (Ok Block) → (length (body_at t h) ≡ 512) × Holds t h (block_record (body_at t h))
     go (whole_block b k) =
         let n : length (body_at t h) ≡ 512 = length-take-le 512 (drop (h + 1) t) (omega (arith, length-drop (h + 1) t)) in
         let q : suc h ≡ h + 1 = omega arith in
@@ -116,17 +116,17 @@ found_holds t h f = go (found_case t h Block f)
 byte_same : (t u : List ℕ) (a k : ℕ) → take a t ≡ take a u → k < a → get_or u k 0 ≡ get_or t k 0
 byte_same t u a k e l = sym (get_or-take a u k 0 l) ∙ ap (λ (x : List ℕ). get_or x k 0) (sym e) ∙ get_or-take a t k 0 l
 
-block_same : (t u : List ℕ) (a k : ℕ) → take a t ≡ take a u → a ≤ length u → k + 513 ≤ a → found_at t k ≡ Block → found_at u k ≡ Block
-block_same t u a k e n l f = go (found_case t k Block f)
+block_same : (t u : List ℕ) (a k : ℕ) → take a t ≡ take a u → a ≤ length u → k + 513 ≤ a → found_at t k ≡ Ok Block → found_at u k ≡ Ok Block
+block_same t u a k e n l f = go (found_case t k (Ok Block) f)
   where
-    go : Stands t k Block → found_at u k ≡ Block
-    go (whole_block b q) = case_found u k Block (whole_block (omega arith) (byte_same t u a k e (omega arith) ∙ q))
+    go : Stands t k (Ok Block) → found_at u k ≡ Ok Block
+    go (whole_block b q) = case_found u k (Ok Block) (whole_block (omega arith) (byte_same t u a k e (omega arith) ∙ q))
 
-mark_same : (t u : List ℕ) (a k : ℕ) → take a t ≡ take a u → a ≤ length u → k + 1 ≤ a → found_at t k ≡ Mark → found_at u k ≡ Mark
-mark_same t u a k e n l f = go (found_case t k Mark f)
+mark_same : (t u : List ℕ) (a k : ℕ) → take a t ≡ take a u → a ≤ length u → k + 1 ≤ a → found_at t k ≡ Ok Mark → found_at u k ≡ Ok Mark
+mark_same t u a k e n l f = go (found_case t k (Ok Mark) f)
   where
-    go : Stands t k Mark → found_at u k ≡ Mark
-    go (one_mark b q) = case_found u k Mark (one_mark (omega arith) (byte_same t u a k e (omega arith) ∙ q))
+    go : Stands t k (Ok Mark) → found_at u k ≡ Ok Mark
+    go (one_mark b q) = case_found u k (Ok Mark) (one_mark (omega arith) (byte_same t u a k e (omega arith) ∙ q))
 
 -- the walk as a relation is the walk
 way_is : {t : List ℕ} {h : ℕ} {r : Trail} → Walks t h r → r ≡ trail t h
@@ -134,15 +134,15 @@ way_is {t} {h} (over_block e w) = ap (block h) (way_is w) ∙ sym (trail_block t
 way_is {t} {h} (over_mark e w) = ap (mark h) (way_is w) ∙ sym (trail_mark t h e)
 way_is {t} {h} (at_stop {w = w} e) = sym (trail_stop t h w e)
 
-past_above : {t : List ℕ} {h : ℕ} {r : Trail} → Walks t h r → (n a : ℕ) → past_marks n r ≡ Past a → h ≤ a
+past_above : {t : List ℕ} {h : ℕ} {r : Trail} → Walks t h r → (n a : ℕ) → past_marks n r ≡ Ok a → h ≤ a
 past_above {t} {h} {r} w zero a p = let q : start_of r ≡ a = cc in omega (arith, way_start w, q)
 past_above {t} {h} (over_block {r = r} e w) (suc n) a p = let l = past_above {t = t} {h = h + 513} {r = r} w (suc n) a p in omega arith
 past_above {t} {h} (over_mark {r = r} e w) (suc n) a p = let l = past_above {t = t} {h = h + 1} {r = r} w n a p in omega arith
 past_above {t} {h} (at_stop e) (suc n) a p = absurd (let z : ◌≡◌ {A = ℕ} 0 1 = cc in omega arith)
 
-same_way : {t : List ℕ} {h : ℕ} {r : Trail} (u : List ℕ) → Walks t h r → (n a : ℕ) → past_marks n r ≡ Past a → take a t ≡ take a u → a ≤ length u
-    → past_marks n (trail u h) ≡ Past a
-same_way {t} {h} u w zero a p e n = ap Past (trail_start u h ∙ sym (way_start w)) ∙ p
+same_way : {t : List ℕ} {h : ℕ} {r : Trail} (u : List ℕ) → Walks t h r → (n a : ℕ) → past_marks n r ≡ Ok a → take a t ≡ take a u → a ≤ length u
+    → past_marks n (trail u h) ≡ Ok a
+same_way {t} {h} u w zero a p e n = ap Ok (trail_start u h ∙ sym (way_start w)) ∙ p
 same_way {t} {h} u (over_block {r = r} f w) (suc m) a p e n =
     let l = past_above w (suc m) a p in
     rw (trail_block u h (block_same t u a h e n l f)) (same_way {t = t} {h = h + 513} {r = r} u w (suc m) a p e n)
@@ -154,13 +154,13 @@ same_way {t} {h} u (at_stop f) (suc m) a p e n = absurd (let z : ◌≡◌ {A = 
 pub past_same : PastSame
 past_same t u h n a p e l = same_way u (trail_way t h) n a p e l
 
-next_way : {t : List ℕ} {h : ℕ} {r : Trail} → Walks t h r → (n a : ℕ) → past_marks (suc n) r ≡ Past a → Next t h n a
+next_way : {t : List ℕ} {h : ℕ} {r : Trail} → Walks t h r → (n a : ℕ) → past_marks (suc n) r ≡ Ok a → Next t h n a
 next_way {t} {h} (over_block f w) n a p =
     let x = next_way w n a p in record { mark = x.mark; first = ap (past_marks 1) (trail_block t h f) ∙ x.first; others = x.others }
 next_way {t} {h} (over_mark f w) n a p =
     record {
       mark = h + 1;
-      first = ap (past_marks 1) (trail_mark t h f) ∙ ap Past (trail_start t (h + 1));
+      first = ap (past_marks 1) (trail_mark t h f) ∙ ap Ok (trail_start t (h + 1));
       others = ap (past_marks n) (sym (way_is w)) ∙ p;
     }
 next_way {t} {h} (at_stop f) n a p = absurd (let z : ◌≡◌ {A = ℕ} 0 1 = cc in omega arith)

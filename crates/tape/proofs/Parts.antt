@@ -5,11 +5,12 @@ use mathlib.Core.List.{List, [], ◌∷◌, ◌++◌, append-nil}
 use mathlib.Core.Bool.{Bool, true, false}
 use native.Mathlib.Omega.{arith}
 use native.Mathlib.Nat.{not-suc-le-zero}
-use lib.ListN.{length, take, drop, set, length-drop, drop_of_length-le, replicate}
-use lib.Seq.{take_all, take_at, drop_at, paste}
+use lib.ListN.{length, take, drop, set, length-drop, drop_of_length-le}
+use lib.Seq.{take_all, take_at, drop_at}
 use lib.Dec.{leb}
+use borrow.Rule.Slice.PartMut.{put_mid}
 use borrow.Author.Tests.{leb-true, leb-false, le-leb, lt-leb}
-use Rattle.tape.specs.declared.record.Made.TheVariants.{Next, NoRoom}
+use Rattle.std.specs.Prelude.{Some, None}
 use Rattle.basis.specs.Choice.{pick}
 use Rattle.tape.specs.Record.{mark_record, block_record}
 use Rattle.tape.specs.Recording.{ended_at, put_in, recorded, written, written_at}
@@ -43,10 +44,10 @@ pub mark_put : (d : List ℕ) → 1 ≤ length d → ended_at (set d 0 2) 1 ≡ 
 mark_put [] l = absurd (not-suc-le-zero l)
 mark_put (x ∷ xs) l = refl
 
--- a block's kind stored, its body pasted, and the 00 after it
-pub block_put : (d s : List ℕ) → length s ≡ 512 → 513 ≤ length d → ended_at (paste (set d 0 1) 1 s 512) 513 ≡ put_in (block_record s) d
+-- a block's kind stored, its body copied, and the 00 after it
+pub block_put : (d s : List ℕ) → length s ≡ 512 → 513 ≤ length d → ended_at (put_mid 1 512 (set d 0 1) s) 513 ≡ put_in (block_record s) d
 block_put [] s e l = absurd (not-suc-le-zero l)
-block_put (x ∷ xs) s e l = rw (take_all 512 s (omega (arith, e)), take_at s (drop 512 xs) 512 e, drop_at s (drop 512 xs) 512 e, e)
+block_put (x ∷ xs) s e l = rw (take_at s (drop 512 xs) 512 e, drop_at s (drop 512 xs) 512 e, e)
 
 -- the part from h on is the whole of it
 pub part_of : (t : List ℕ) (h : ℕ) → take (length t - h) (drop h t) ≡ drop h t
@@ -63,14 +64,10 @@ record_back t p rec h e = part_back t p h ∙ ap (λ (q : List ℕ). take h t ++
 
 -- a record made where it has room, and none where it has not
 pub made_with_room : (t p rec : List ℕ) (h n spare : ℕ) → h + (n + spare) ≤ length t → p ≡ put_in rec (take (length t - h) (drop h t))
-    → written (Next (h + n)) (take h t ++ (p ++ drop (length t - h) (drop h t))) ≡ written_at t h n spare rec
+    → written (Some (h + n)) (take h t ++ (p ++ drop (length t - h) (drop h t))) ≡ written_at t h n spare rec
 unfolding pick written_at
-made_with_room t p rec h n spare l e = rw (le-leb (h + (n + spare)) (length t) l) (ap (written (Next (h + n))) (record_back t p rec h e))
+made_with_room t p rec h n spare l e = rw (le-leb (h + (n + spare)) (length t) l) (ap (written (Some (h + n))) (record_back t p rec h e))
 
-pub none_without_room : (t rec : List ℕ) (h n spare : ℕ) → length t < h + (n + spare) → written NoRoom t ≡ written_at t h n spare rec
+pub none_without_room : (t rec : List ℕ) (h n spare : ℕ) → length t < h + (n + spare) → written None t ≡ written_at t h n spare rec
 unfolding pick written_at
 none_without_room t rec h n spare l = rw (lt-leb (h + (n + spare)) (length t) l)
-
--- every byte stored
-pub filled_all : (t d : List ℕ) (i : ℕ) → i ≤ length t → length t ≤ i → d ≡ replicate i 0 ++ drop i t → d ≡ replicate (length t) 0
-filled_all t d i a b e = let q : i ≡ length t = omega arith in e ∙ rw (drop_of_length-le t b, append-nil, q)

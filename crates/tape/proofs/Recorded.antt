@@ -9,7 +9,7 @@ use lib.ListN.{length, get_or, take, drop, length-append, length-drop, get_or-ap
 use lib.Seq.{take_at, drop_at, drop-drop, get_or-drop, get_or-append-add, drop-append-add, length-take-le}
 use lib.Dec.{leb}
 use borrow.Author.Tests.{leb-true, leb-false}
-use Rattle.tape.specs.declared.found.Found.TheVariants.{Stop}
+use Rattle.std.specs.Prelude.{Err}
 use Rattle.tape.specs.declared.found.Why.TheVariants.{End}
 use Rattle.tape.specs.Record.{found_at, mark_record, block_record}
 use Rattle.tape.specs.Recording.{ended, put_in, recorded}
@@ -63,10 +63,10 @@ module _ (t rec : List ℕ) (h : ℕ) (fits : h + length rec ≤ length t) where
       sym (drop-drop (length rec + 1) h (recorded t h rec))
       ∙ rw (recorded_from, drop-append-add) (ended_rest (drop (h + length rec) t) ∙ drop-drop 1 (h + length rec) t ∙ ap (λ (k : ℕ). drop k t) q)
 
-  found_after : found_at (recorded t h rec) (h + length rec) ≡ Stop End
+  found_after : found_at (recorded t h rec) (h + length rec) ≡ Err End
   found_after = go (leb (h + length rec + 1) (length t)) refl
     where
-      go : (b : Bool) → leb (h + length rec + 1) (length t) ≡ b → found_at (recorded t h rec) (h + length rec) ≡ Stop End
+      go : (b : Bool) → leb (h + length rec + 1) (length t) ≡ b → found_at (recorded t h rec) (h + length rec) ≡ Err End
       go true e =
           let l : h + length rec + 1 ≤ length t = leb-true _ _ e in
           case_found _ _ _ (one_end (rw recorded_length (omega arith)) recorded_end)

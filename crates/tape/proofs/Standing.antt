@@ -7,7 +7,8 @@ use native.Mathlib.Omega.{arith}
 use lib.ListN.{length, get_or}
 use lib.Dec.{ltb, leb, eqb}
 use borrow.Author.Tests.{ltb-true, ltb-false, leb-true, leb-false, eqb-true, eqb-false, lt-ltb, le-ltb, le-leb, lt-leb, eq-eqb, ne_eqb}
-use Rattle.tape.specs.declared.found.Found.TheVariants.{Block, Mark, Stop}
+use Rattle.std.specs.Prelude.{Ok, Err}
+use Rattle.tape.specs.declared.found.Kind.TheVariants.{Block, Mark}
 use Rattle.tape.specs.declared.found.Why.TheVariants.{End, Unknown, Bad}
 use Rattle.basis.specs.Choice.{pick}
 use Rattle.tape.specs.Record.{of_kind, found_at}
@@ -29,7 +30,7 @@ stands t h = go _ _ _ _ _ _ refl refl refl refl refl refl
   where
     go : (b k0 k1 w k2 o : Bool) → ltb h (length t) ≡ b → eqb (get_or t h 0) 0 ≡ k0 → eqb (get_or t h 0) 1 ≡ k1
         → leb (h + 513) (length t) ≡ w → eqb (get_or t h 0) 2 ≡ k2 → eqb h (length t) ≡ o
-        → Stands t h (pick b (pick k0 (Stop End) (pick k1 (pick w Block (Stop Bad)) (pick k2 Mark (Stop Unknown)))) (pick o (Stop End) (Stop Bad)))
+        → Stands t h (pick b (pick k0 (Err End) (pick k1 (pick w (Ok Block) (Err Bad)) (pick k2 (Ok Mark) (Err Unknown)))) (pick o (Err End) (Err Bad)))
     go true true k1 w k2 o eb e0 e1 ew e2 eo = one_end (ltb-true _ _ eb) (eqb-true _ _ e0)
     go true false true true k2 o eb e0 e1 ew e2 eo = whole_block (leb-true _ _ ew) (eqb-true _ _ e1)
     go true false true false k2 o eb e0 e1 ew e2 eo = cut_block (ltb-true _ _ eb) (leb-false _ _ ew) (eqb-true _ _ e1)
@@ -45,22 +46,22 @@ found_case t h f e = subst (Stands t h) e (stands t h)
 pub unknown_found : UnknownFound
 unknown_found t h u =
     let k = u.kind in
-    case_found t h (Stop Unknown) (other_kind u.there (λ e. omega (arith, k, e)) (λ e. omega (arith, k, e)) (λ e. omega (arith, k, e)))
+    case_found t h (Err Unknown) (other_kind u.there (λ e. omega (arith, k, e)) (λ e. omega (arith, k, e)) (λ e. omega (arith, k, e)))
 
 pub found_unknown : FoundUnknown
-found_unknown t h e = go (found_case t h (Stop Unknown) e)
+found_unknown t h e = go (found_case t h (Err Unknown) e)
   where
-    go : Stands t h (Stop Unknown) → UnknownKind t h
+    go : Stands t h (Err Unknown) → UnknownKind t h
     go (other_kind b k0 k1 k2) = record { there = b; kind = omega (arith, k0, k1, k2) }
 
 pub block_fits : BlockFits
-block_fits t h e = go (found_case t h Block e)
+block_fits t h e = go (found_case t h (Ok Block) e)
   where
-    go : Stands t h Block → h + 513 ≤ length t
+    go : Stands t h (Ok Block) → h + 513 ≤ length t
     go (whole_block b k) = b
 
 pub mark_fits : MarkFits
-mark_fits t h e = go (found_case t h Mark e)
+mark_fits t h e = go (found_case t h (Ok Mark) e)
   where
-    go : Stands t h Mark → h + 1 ≤ length t
+    go : Stands t h (Ok Mark) → h + 1 ≤ length t
     go (one_mark b k) = omega (arith, b)

@@ -1,7 +1,5 @@
 -- Recording puts the record at the head and one 00 after it, if that offset is inside the tape. No other byte changes.
-use Rattle.std.specs.Prelude.{ℕ, ◌+◌, List, [], ◌∷◌, ◌++◌, length, take, drop, replicate, leb}
-use Rattle.tape.specs.declared.record.Made.{Made}
-use Rattle.tape.specs.declared.record.Made.TheVariants.{Next, NoRoom}
+use Rattle.std.specs.Prelude.{ℕ, ◌+◌, List, [], ◌∷◌, ◌++◌, length, take, drop, replicate, leb, Option, Some, None}
 use Rattle.basis.specs.Choice.{pick}
 use Rattle.tape.specs.Record.{end_kind, mark_size, block_size, mark_record, block_record}
 
@@ -22,18 +20,18 @@ put_in rec part = rec ++ ended (drop (length rec) part)
 unfoldable pub recorded : List ℕ → ℕ → List ℕ → List ℕ
 recorded t h rec = take h t ++ put_in rec (drop h t)
 
--- What an order to record hands back: the answer, and the tape as it is left.
+-- What an order to record hands back: the answer, the offset just past the record if there was room, and the tape as it is left.
 pub record Written : Type 0 where
-  pub made : Made
+  pub made : Option ℕ
   pub tape : List ℕ
 
-abbrev pub written : Made → List ℕ → Written
+abbrev pub written : Option ℕ → List ℕ → Written
 written m t = record { made = m; tape = t }
 
 -- A record of n bytes at offset h, if it and `spare` bytes behind it have room; else the tape as found.
 unfoldable pub written_at : List ℕ → ℕ → ℕ → ℕ → List ℕ → Written
 written_at t h n spare rec =
-    pick (leb (h + (n + spare)) (length t)) (written (Next (h + n)) (recorded t h rec)) (written NoRoom t)
+    pick (leb (h + (n + spare)) (length t)) (written (Some (h + n)) (recorded t h rec)) (written None t)
 
 abbrev pub mark_written : List ℕ → ℕ → Written
 mark_written t h = written_at t h mark_size 0 mark_record

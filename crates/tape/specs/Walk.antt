@@ -1,10 +1,9 @@
 -- The one walk over records, and what is read off it by whoever passes records.
-use Rattle.std.specs.Prelude.{ℕ, zero, suc, ◌+◌, List, length}
-use Rattle.tape.specs.declared.found.Found.TheVariants.{Block, Mark, Stop}
+use Rattle.std.specs.Prelude.{ℕ, zero, suc, ◌+◌, List, length, Result, Ok, Err}
+use Rattle.tape.specs.declared.found.Kind.TheVariants.{Block, Mark}
 use Rattle.tape.specs.declared.found.Why.{Why}
 use Rattle.tape.specs.declared.found.Why.TheVariants.{Bad}
-use Rattle.tape.specs.declared.pass.Passed.{Passed}
-use Rattle.tape.specs.declared.pass.Passed.TheVariants.{Past, Stopped}
+use Rattle.tape.specs.declared.pass.Stopped.{Stopped}
 use Rattle.tape.specs.declared.pass.Way.{Way}
 use Rattle.tape.specs.Record.{found_at, mark_size, block_size}
 
@@ -18,7 +17,7 @@ pub data Trail : Type 0 where
 unfoldable pub walk : List ℕ → ℕ → ℕ → Trail
 walk t zero h = stop h Bad
 walk t (suc n) h =
-    elim (found_at t h) [ Block ↦ block h (walk t n (h + block_size)) | Mark ↦ mark h (walk t n (h + mark_size)) | Stop w ↦ stop h w ]
+    elim (found_at t h) [ Ok Block ↦ block h (walk t n (h + block_size)) | Ok Mark ↦ mark h (walk t n (h + mark_size)) | Err w ↦ stop h w ]
 
 -- All of them: a record is a byte or more, so a tape holds fewer of them than its length and one.
 unfoldable pub trail : List ℕ → ℕ → Trail
@@ -31,11 +30,11 @@ start_of (mark h r) = h
 start_of (stop h w) = h
 
 -- Past the next n marks, or where and why there were no more.
-abbrev pub past_marks : ℕ → Trail → Passed
-past_marks zero r = Past (start_of r)
+abbrev pub past_marks : ℕ → Trail → Result ℕ Stopped
+past_marks zero r = Ok (start_of r)
 past_marks (suc n) (block h r) = past_marks (suc n) r
 past_marks (suc n) (mark h r) = past_marks n r
-past_marks (suc n) (stop h w) = Stopped h w
+past_marks (suc n) (stop h w) = Err (record { at = h; why = w })
 
 -- How many marks, and how many records, are passed on that way.
 abbrev pub marks_past : ℕ → Trail → ℕ
@@ -51,13 +50,13 @@ records_past (suc n) (mark h r) = suc (records_past n r)
 records_past (suc n) (stop h w) = 0
 
 -- From offset h to just past the next mark, or to the end of data, or to a bad record.
-abbrev pub passed : List ℕ → ℕ → Passed
+abbrev pub passed : List ℕ → ℕ → Result ℕ Stopped
 passed t h = past_marks 1 (trail t h)
 
 -- The offset where passing ended.
-abbrev pub end_of : Passed → ℕ
-end_of (Past at) = at
-end_of (Stopped at w) = at
+abbrev pub end_of : Result ℕ Stopped → ℕ
+end_of (Ok at) = at
+end_of (Err s) = s.at
 
 -- THE WAY from offset h past the next n marks: where it ended, and the marks and the records that it passed.
 abbrev pub way_past : List ℕ → ℕ → ℕ → Way

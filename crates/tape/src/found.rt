@@ -4,44 +4,37 @@ ghost use Rattle.tape.specs.Record.{found_at};
 
 use crate::{BLOCK, BLOCK_SIZE, END, MARK};
 
+// A record to pass.
+#[derive(Clone, Copy, PartialEq, Eq, Debug)]
+pub enum Kind {
+    Block,
+    Mark,
+}
+
 // Why there is no record to pass: the data ends, or the record is bad by its kind or otherwise.
-#[derive(Clone, Copy)]
+#[derive(Clone, Copy, PartialEq, Eq, Debug)]
 pub enum Why {
     End,
     Unknown,
     Bad,
 }
 
-#[derive(Clone, Copy)]
-pub enum Found {
-    Block,
-    Mark,
-    Stop(Why),
-}
-
 // The record at an offset, for any offset and any bytes.
-pub fn found_at(tape: &[u8], head: usize) -> Found
+pub fn found_at(tape: &[u8], head: usize) -> Result<Kind, Why>
     ensures { result ≡ found_at tape.now head }
 {
     let n = tape.len();
     if n < head {
-        return Found::Stop(Why::Bad);
+        return Err(Why::Bad);
     }
     if n == head {
-        return Found::Stop(Why::End);
+        return Err(Why::End);
     }
-    let kind = tape[head];
-    if kind == END {
-        return Found::Stop(Why::End);
+    match tape[head] {
+        END => Err(Why::End),
+        BLOCK if BLOCK_SIZE <= n - head => Ok(Kind::Block),
+        BLOCK => Err(Why::Bad),
+        MARK => Ok(Kind::Mark),
+        _ => Err(Why::Unknown),
     }
-    if kind == BLOCK {
-        if BLOCK_SIZE <= n - head {
-            return Found::Block;
-        }
-        return Found::Stop(Why::Bad);
-    }
-    if kind == MARK {
-        return Found::Mark;
-    }
-    Found::Stop(Why::Unknown)
 }

@@ -5,9 +5,9 @@ mod found;
 mod pass;
 mod record;
 
-pub use found::{Found, Why, found_at};
-pub use pass::{Passed, Way, pass_marks, pass_to_mark};
-pub use record::{Made, erase, has_room, record_block, record_mark};
+pub use found::{Kind, Why, found_at};
+pub use pass::{Stopped, Way, pass_marks, pass_to_mark};
+pub use record::{erase, has_room, record_block, record_mark};
 
 // Kind 00: end of data. Kind 01: a block. Kind 02: a file mark.
 pub const END: u8 = 0;

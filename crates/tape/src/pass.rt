@@ -2,20 +2,20 @@
 ghost use Rattle.std.specs.Prelude.{◌≡◌};
 ghost use Rattle.tape.specs.Walk.{passed, way_past};
 
-use crate::found::{Found, Why, found_at};
+use crate::found::{Kind, Why, found_at};
 use crate::{BLOCK_SIZE, MARK_SIZE};
 
-// Where passing records ended: just past a mark, or where there was no record to pass, and why.
+// Where passing records stopped, since there was no record to pass, and why.
 #[derive(Clone, Copy)]
-pub enum Passed {
-    Past(usize),
-    Stopped(usize, Why),
+pub struct Stopped {
+    pub at: usize,
+    pub why: Why,
 }
 
-// A way over the tape: where it ended, and how many marks and how many records it passed.
+// A way over the tape: where it ended, just past a mark or stopped before it, and how many marks and how many records it passed.
 #[derive(Clone, Copy)]
 pub struct Way {
-    pub end: Passed,
+    pub end: Result<usize, Stopped>,
     pub marks: usize,
     pub records: usize,
 }
@@ -27,21 +27,21 @@ pub fn pass_marks(tape: &[u8], head: usize, marks: usize) -> Way
     let mut at = head;
     let mut left = marks;
     let mut records: usize = 0;
+    // No `for` over the marks: it would ask for a second loop inside it, over the blocks between two of them.
     while 0 < left {
-        let f = found_at(tape, at);
-        match f {
-            Found::Block => {
+        match found_at(tape, at) {
+            Ok(Kind::Block) => {
                 at += BLOCK_SIZE;
                 records += 1;
             }
-            Found::Mark => {
+            Ok(Kind::Mark) => {
                 at += MARK_SIZE;
                 records += 1;
                 left -= 1;
             }
-            Found::Stop(why) => {
+            Err(why) => {
                 return Way {
-                    end: Passed::Stopped(at, why),
+                    end: Err(Stopped { at, why }),
                     marks: marks - left,
                     records,
                 };
@@ -49,16 +49,15 @@ pub fn pass_marks(tape: &[u8], head: usize, marks: usize) -> Way
         }
     }
     Way {
-        end: Passed::Past(at),
+        end: Ok(at),
         marks,
         records,
     }
 }
 
 // From the head to just past the next mark, or to the end of data, or to a bad record.
-pub fn pass_to_mark(tape: &[u8], head: usize) -> Passed
+pub fn pass_to_mark(tape: &[u8], head: usize) -> Result<usize, Stopped>
     ensures { result ≡ passed tape.now head }
 {
-    let way = pass_marks(tape, head, 1);
-    way.end
+    pass_marks(tape, head, 1).end
 }

@@ -3,14 +3,7 @@ ghost use Rattle.std.specs.Prelude.{◌≡◌, ◌+◌, ◌≤◌, length, leb};
 ghost use Rattle.tape.specs.Record.{body_size, mark_record, block_record};
 ghost use Rattle.tape.specs.Recording.{put_in, ended_at, written, mark_written, block_written, erased};
 
-use crate::{BLOCK, BLOCK_SIZE, BODY, END, MARK, MARK_SIZE};
-
-// What came of an order to record: the offset just past the record, or no room for it.
-#[derive(Clone, Copy)]
-pub enum Made {
-    Next(usize),
-    NoRoom,
-}
+use crate::{BLOCK, BLOCK_SIZE, END, MARK, MARK_SIZE};
 
 // Whether n bytes from the head on lie inside a tape of this length, for any three numbers.
 pub fn has_room(head: usize, n: usize, length: usize) -> bool
@@ -46,48 +39,40 @@ fn put_block(part: &mut [u8], body: &[u8])
     ensures { part.new ≡ put_in (block_record body.now) part.old }
 {
     part[0] = BLOCK;
-    let mut i: usize = 0;
-    while i < BODY {
-        part[1 + i] = body[i];
-        i += 1;
-    }
+    part[1..BLOCK_SIZE].copy_from_slice(body);
     end_at(part, BLOCK_SIZE);
 }
 
-// A mark at the head, if it has room; else the tape as found.
-pub fn record_mark(tape: &mut [u8], head: usize) -> Made
+// A mark at the head, if it has room, and the offset just past it; else the tape as found.
+pub fn record_mark(tape: &mut [u8], head: usize) -> Option<usize>
     ensures { written result tape.new ≡ mark_written tape.old head }
 {
     if has_room(head, MARK_SIZE, tape.len()) {
         put_mark(&mut tape[head..]);
-        return Made::Next(head + MARK_SIZE);
+        return Some(head + MARK_SIZE);
     }
-    Made::NoRoom
+    None
 }
 
-// A block at the head, if it and the spare bytes behind it have room; else the tape as found.
-pub fn record_block(tape: &mut [u8], head: usize, body: &[u8], spare: usize) -> Made
+// A block at the head, if it and the spare bytes behind it have room, and the offset just past it; else the tape as found.
+pub fn record_block(tape: &mut [u8], head: usize, body: &[u8], spare: usize) -> Option<usize>
     requires { length body.now ≡ body_size }
     ensures { written result tape.new ≡ block_written tape.old head body.now spare }
 {
     let n = tape.len();
     if n < spare {
-        return Made::NoRoom;
+        return None;
     }
     if has_room(head, BLOCK_SIZE, n - spare) {
         put_block(&mut tape[head..], body);
-        return Made::Next(head + BLOCK_SIZE);
+        return Some(head + BLOCK_SIZE);
     }
-    Made::NoRoom
+    None
 }
 
 // Every byte 0.
 pub fn erase(tape: &mut [u8])
     ensures { tape.new ≡ erased tape.old }
 {
-    let mut i: usize = 0;
-    while i < tape.len() {
-        tape[i] = 0;
-        i += 1;
-    }
+    tape.fill(0);
 }

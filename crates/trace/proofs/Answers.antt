@@ -15,7 +15,7 @@ one_outcome =
     record {
       kind_size = λ k r r' p q. same p q;
       next_event = λ l r r' p q. same p q;
-      show_line = λ o at n a l given b r r' o' o'' p q. let e = same p q in (ap (λ (x : Page). x.shown) e, ap (λ (x : Page). x.out) e);
+      show_line = λ o at n a l byte r r' o' o'' p q. let e = same p q in (ap (λ (x : Page). x.shown) e, ap (λ (x : Page). x.out) e);
       play =
           λ c l input ending n o p p' l' l'' o' o'' s t.
           let e = same s.is t.is in

@@ -1,6 +1,6 @@
 -- What a line has, and that an answer's number is one digit.
 use Prim.Native.Nat.{ℕ, ◌<◌}
-use mathlib.Core.Bool.{Bool}
+use Rattle.std.specs.Prelude.{Option}
 use mathlib.Core.Path.{◌≡◌}
 use native.Mathlib.Omega.{arith}
 use lib.ListN.{length, length-append}
@@ -11,9 +11,9 @@ use Rattle.rules.specs.declared.answer.Lines.{Lines}
 use Rattle.rules.specs.Answer.{row_of}
 use Rattle.trace.specs.Line.{fields_of, line_of, line_size}
 
-pub line_length : (n : ℕ) (a : Answer) (l : Lines) (given : Bool) (b : ℕ) → length (line_of n a l given b) ≡ line_size n
+pub line_length : (n : ℕ) (a : Answer) (l : Lines) (byte : Option ℕ) → length (line_of n a l byte) ≡ line_size n
 unfolding line_of line_size fields_of
-line_length n a l given b = length-append (decimal n) (fields_of a l given b)
+line_length n a l byte = length-append (decimal n) (fields_of a l byte)
 
 -- An answer's number is one digit.
 pub one_digit : (a : Answer) → (row_of a).number < 16

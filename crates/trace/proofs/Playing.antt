@@ -7,6 +7,7 @@ use native.Mathlib.Nat.{add-zero, zero-add, add_assoc}
 use native.Mathlib.Omega.{arith}
 use lib.ListN.{length, take, drop, length-drop, take-append-drop}
 use lib.Seq.{take_all, length-take-le, drop-drop}
+use Rattle.std.specs.Prelude.{Option, Some, None}
 use Rattle.rules.specs.declared.unit.Core.{Core}
 use Rattle.rules.specs.Unit.{Lent}
 use Rattle.rules.specs.Run.{World, world, after, turn_of}
@@ -20,7 +21,7 @@ use Rattle.trace.specs.Play.{has_room, line_in, stops, Run, still, since, play, 
 use Rattle.basis.proofs.Choosing.{elim_true, elim_false}
 use Rattle.trace.proofs.Lengths.{line_length}
 use Rattle.basis.proofs.Placing.{placed_length, take_placed, drop_placed}
-use Rattle.trace.proofs.Cutting.{next_inside_lem, events_none, events_next}
+use Rattle.trace.proofs.Cutting.{next_fits, events_none, events_next}
 use Rattle.trace.proofs.Turning.{room_fits}
 
 -- Where a run stands, with so much used and written: what is written, and behind it what the rest will write, is the whole; the output behind it is as found.
@@ -89,25 +90,31 @@ module _ {c : Core} {l : Lent} {input : List ℕ} {ending : Bool} {count : ℕ} 
 part_end : (l : List ℕ) (k : ℕ) → take (length l - k) (drop k l) ≡ drop k l
 part_end l k = take_all (length l - k) (drop k l) (rw (length-drop k l) (omega arith))
 
+looked_at : (ending : Bool) (l : List ℕ) (k : ℕ) {o : Option ℕ} → o ≡ next_size ending (take (length l - k) (drop k l))
+    → next_size ending (drop k l) ≡ o
+looked_at ending l k cut = sym (cut ∙ ap (λ (x : List ℕ). next_size ending x) (part_end l k))
+
 module _ {c : Core} {l : Lent} {input : List ℕ} {ending : Bool} {count : ℕ} {o : List ℕ} {w : World} {used written n : ℕ} {out : List ℕ}
-    (g : Runs c l input ending count o w used written n out) {size : ℕ}
-    (cut : size ≡ next_size ending (take (length input - used) (drop used input))) where
-  next_is : size ≡ next_size ending (drop used input)
-  next_is = cut ∙ ap (λ (x : List ℕ). next_size ending x) (part_end input used)
-
-  size_inside : size ≤ length (drop used input)
-  size_inside = rw next_is (next_inside_lem ending (drop used input))
-
-  -- The next event ends inside the input.
-  pub event_inside : used + size ≤ length input
-  event_inside = let q = size_inside in omega (arith, length-drop used input, g.stands.inside)
-
+    (g : Runs c l input ending count o w used written n out) where
   -- No event is left.
-  pub none_left : size ≡ 0 → Stands c l input ending count o used written out (still w n InputOut)
-  none_left p =
-      with_rest g.stands (ap (λ (es : List (List ℕ)). play (length o) written w n es) (events_none ending (drop used input) (sym next_is ∙ p)))
+  pub none_left : None ≡ next_size ending (take (length input - used) (drop used input))
+      → Stands c l input ending count o used written out (still w n InputOut)
+  none_left cut =
+      with_rest g.stands
+      (ap (λ (es : List (List ℕ)). play (length o) written w n es) (events_none ending (drop used input) (looked_at ending input used cut)))
 
-  module _ (some : size ≡ 0 → ⊥) where
+  module _ {size : ℕ} (cut : Some size ≡ next_size ending (take (length input - used) (drop used input))) where
+    next_is : next_size ending (drop used input) ≡ Some size
+    next_is = looked_at ending input used cut
+
+    size_inside : size ≤ length (drop used input)
+    size_inside = (next_fits ending (drop used input) size next_is).1
+
+    -- The next event has at least one byte, and ends inside the input.
+    pub event_inside : (1 ≤ size) × (used + size ≤ length input)
+    event_inside =
+        ((next_fits ending (drop used input) size next_is).0, let q = size_inside in omega (arith, length-drop used input, g.stands.inside))
+
     abbrev event : List ℕ
     event = take size (drop used input)
 
@@ -127,7 +134,7 @@ module _ {c : Core} {l : Lent} {input : List ℕ} {ending : Bool} {count : ℕ} 
 
     events : events_of ending (drop used input) ≡ event ∷ events_of ending (drop (used + size) input)
     events =
-        events_next ending (drop used input) size next_is some
+        events_next ending (drop used input) size next_is
         ∙ ap (λ (x : List ℕ). event ∷ events_of ending x) (drop-drop size used input)
 
     played : (b : Bool) → has_room (length out) written n ≡ b
@@ -148,7 +155,7 @@ module _ {c : Core} {l : Lent} {input : List ℕ} {ending : Bool} {count : ℕ} 
 
       line_size_lem : length line ≡ line_size (n + 1)
       unfolding line_in
-      line_size_lem = line_length (n + 1) (turn_of w event).answer (turn_of w event).lines (turn_of w event).given (turn_of w event).byte
+      line_size_lem = line_length (n + 1) (turn_of w event).answer (turn_of w event).lines (turn_of w event).byte
 
       line_inside : written + length line ≤ length out
       line_inside = let q = (room_fits (length out) written n fits).1 in rw line_size_lem q
@@ -188,7 +195,7 @@ module _ {c : Core} {l : Lent} {input : List ℕ} {ending : Bool} {count : ℕ} 
             behind =
                 rw (past_line, out_is) (drop_placed out written line line_inside
                 ∙ rw (← drop-drop (length line) written out, ← drop-drop (length line) written o, g.stands.behind));
-            inside = event_inside;
+            inside = event_inside.1;
             within = rw (out_is, past_line, placed_length out written line line_inside) line_inside;
             same = ap length out_is ∙ placed_length out written line line_inside ∙ g.stands.same;
           }

@@ -9,7 +9,7 @@ use Rattle.trace.specs.Play.{Run, play}
 -- The lines of answers that are numbered from n on.
 abbrev pub lines_from : ℕ → List Turn → List ℕ
 lines_from n [] = []
-lines_from n (t ∷ ts) = line_of n t.answer t.lines t.given t.byte ++ lines_from (n + 1) ts
+lines_from n (t ∷ ts) = line_of n t.answer t.lines t.byte ++ lines_from (n + 1) ts
 
 abbrev pub bytes_of : List (List ℕ) → ℕ
 bytes_of [] = 0

@@ -1,13 +1,12 @@
 -- One answered event as a line: number, answer, lines, byte, each byte of it.
-use Rattle.std.specs.Prelude.{ℕ, ◌+◌, Bool, List, [], ◌∷◌, ◌++◌, length, leb}
+use Rattle.std.specs.Prelude.{ℕ, ◌+◌, Bool, List, [], ◌∷◌, ◌++◌, length, leb, Option, Some, None}
+use Rattle.std.specs.Option.{option_map_or}
 use Rattle.basis.specs.Choice.{pick}
 use Rattle.basis.specs.Placed.{placed}
 use Rattle.basis.specs.Text.{digit, high_digit, low_digit, decimal}
 use Rattle.rules.specs.declared.answer.Answer.{Answer}
 use Rattle.rules.specs.declared.answer.Lines.{Lines}
 use Rattle.rules.specs.Answer.{row_of}
-use Rattle.trace.specs.declared.line.Shown.{Shown}
-use Rattle.trace.specs.declared.line.Shown.TheVariants.{Next, NoRoom}
 
 -- The characters of a line.
 abbrev pub newline : ℕ
@@ -33,18 +32,18 @@ unfoldable pub or_dash : Bool → ℕ → ℕ
 or_dash b character = pick b character dash
 
 -- What follows the number: the answer's number, R, E and D for the lines that are up, the byte as two hex digits or --.
-unfoldable pub fields_of : Answer → Lines → Bool → ℕ → List ℕ
-fields_of a l given b =
+unfoldable pub fields_of : Answer → Lines → Option ℕ → List ℕ
+fields_of a l byte =
     space ∷ digit (row_of a).number
     ∷ space ∷ or_dash l.ready letter_r ∷ or_dash l.exception letter_e ∷ or_dash l.direction letter_d
-    ∷ space ∷ or_dash given (high_digit b) ∷ or_dash given (low_digit b)
+    ∷ space ∷ option_map_or high_digit byte dash ∷ option_map_or low_digit byte dash
     ∷ newline ∷ []
 
 abbrev pub fields_size : ℕ
 fields_size = 10
 
-unfoldable pub line_of : ℕ → Answer → Lines → Bool → ℕ → List ℕ
-line_of n a l given b = decimal n ++ fields_of a l given b
+unfoldable pub line_of : ℕ → Answer → Lines → Option ℕ → List ℕ
+line_of n a l byte = decimal n ++ fields_of a l byte
 
 -- The bytes that the line of event n takes.
 unfoldable pub line_size : ℕ → ℕ
@@ -52,12 +51,12 @@ line_size n = length (decimal n) + fields_size
 
 -- What an order to show a line hands back: the answer, and the buffer as it is left.
 pub record Page : Type 0 where
-  pub shown : Shown
+  pub shown : Option ℕ
   pub out : List ℕ
 
-abbrev pub page : Shown → List ℕ → Page
+abbrev pub page : Option ℕ → List ℕ → Page
 page s o = record { shown = s; out = o }
 
 -- The line at an offset, if it has room; else the buffer as found.
 unfoldable pub shown_at : List ℕ → ℕ → List ℕ → Page
-shown_at o at l = pick (leb (at + length l) (length o)) (page (Next (at + length l)) (placed o at l)) (page NoRoom o)
+shown_at o at l = pick (leb (at + length l) (length o)) (page (Some (at + length l)) (placed o at l)) (page None o)

@@ -23,7 +23,7 @@ has_room room full n = ltb n last_number && leb (full + line_size (n + 1)) room
 
 -- The line of an event that comes as number n.
 unfoldable pub line_in : World → List ℕ → ℕ → List ℕ
-line_in w e n = line_of n (turn_of w e).answer (turn_of w e).lines (turn_of w e).given (turn_of w e).byte
+line_in w e n = line_of n (turn_of w e).answer (turn_of w e).lines (turn_of w e).byte
 
 -- After an answer 4 reading stops.
 abbrev pub stop_number : ℕ

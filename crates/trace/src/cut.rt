@@ -1,5 +1,5 @@
 // The one cutting of a raw trace into events: the kind fixes how long an event is.
-ghost use Rattle.std.specs.Prelude.{◌≡◌, ◌≤◌};
+ghost use Rattle.std.specs.Prelude.{◌≡◌, ◌≤◌, IfSome};
 ghost use Rattle.trace.specs.Cut.{bodied_size, kind_size, cut_of, next_size};
 
 // The kinds are 01 to 0A; those from 03 to 06 have no body, the others one of one byte.
@@ -16,55 +16,47 @@ const BARE_SIZE: usize = 1;
 
 const BODIED_SIZE: usize = 2;
 
-// What the next event of a stretch of bytes is: whole, with so many bytes; one byte of a kind unknown;
-// cut off by the end of the stretch; or none is left.
+// Why no whole event begins a stretch of bytes: its first byte is of a kind unknown; the event is cut off by the end of the stretch; or none is left.
 #[derive(Clone, Copy)]
 pub enum Cut {
-    Whole(usize),
     UnknownKind,
     CutOff,
     NoneLeft,
 }
 
-// The bytes of an event of this kind; 0 if the kind is unknown.
-pub fn kind_size(kind: u8) -> usize
-    ensures { (result ≡ kind_size kind) × (result ≤ bodied_size) }
+// The bytes of an event of this kind, if the kind is known.
+pub fn kind_size(kind: u8) -> Option<usize>
+    ensures { (result ≡ kind_size kind) × IfSome result (λ n. n ≤ bodied_size) }
 {
     if (FIRST_BARE <= kind) & (kind <= LAST_BARE) {
-        return BARE_SIZE;
+        return Some(BARE_SIZE);
     }
     if (FIRST_KIND <= kind) & (kind <= LAST_KIND) {
-        return BODIED_SIZE;
+        return Some(BODIED_SIZE);
     }
-    0
+    None
 }
 
-// For bytes that end anywhere.
-pub fn next_event(bytes: &[u8]) -> Cut
+// The size of the whole event that bytes begin with, wherever they end.
+pub fn next_event(bytes: &[u8]) -> Result<usize, Cut>
     ensures { result ≡ cut_of bytes.now }
 {
-    let n = bytes.len();
-    if n == 0 {
-        return Cut::NoneLeft;
+    let kind = bytes.first().ok_or(Cut::NoneLeft)?;
+    let size = kind_size(*kind).ok_or(Cut::UnknownKind)?;
+    if size <= bytes.len() {
+        return Ok(size);
     }
-    let size = kind_size(bytes[0]);
-    if size == 0 {
-        return Cut::UnknownKind;
-    }
-    if size <= n {
-        return Cut::Whole(size);
-    }
-    Cut::CutOff
+    Err(Cut::CutOff)
 }
 
-// The bytes to answer as one event, or 0: an unknown kind is one byte, and where the input is ending what is cut off is one event.
-pub(crate) fn next_size(bytes: &[u8], ending: bool) -> usize
+// The bytes to answer as one event, if any: an unknown kind is one byte, and where the input is ending what is cut off is one event.
+pub(crate) fn next_size(bytes: &[u8], ending: bool) -> Option<usize>
     ensures { result ≡ next_size ending bytes.now }
 {
     match next_event(bytes) {
-        Cut::Whole(size) => size,
-        Cut::UnknownKind => BARE_SIZE,
-        Cut::CutOff => if ending { bytes.len() } else { 0 },
-        Cut::NoneLeft => 0,
+        Ok(size) => Some(size),
+        Err(Cut::UnknownKind) => Some(BARE_SIZE),
+        Err(Cut::CutOff) => if ending { Some(bytes.len()) } else { None },
+        Err(Cut::NoneLeft) => None,
     }
 }

@@ -7,6 +7,6 @@ mod rest;
 mod run;
 
 pub use cut::{Cut, kind_size, next_event};
-pub use line::{Shown, show_line};
+pub use line::show_line;
 pub use rest::keep_rest;
 pub use run::{Halt, Played, play};

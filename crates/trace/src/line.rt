@@ -1,7 +1,9 @@
 // One answered event as a line: number, answer, lines and byte.
-ghost use Rattle.std.specs.Prelude.{◌≡◌, ◌+◌, ◌≤◌, length};
+ghost use Rattle.std.specs.Prelude.{◌≡◌, ◌+◌, ◌≤◌, [], ◌∷◌, length};
+ghost use Rattle.std.specs.Option.{option_map_or};
+ghost use Rattle.basis.specs.Text.{high_digit, low_digit};
 ghost use Rattle.basis.specs.Placed.{placed};
-ghost use Rattle.trace.specs.Line.{or_dash, fields_of, line_of, line_size, page, shown_at};
+ghost use Rattle.trace.specs.Line.{dash, or_dash, fields_of, line_of, line_size, page, shown_at};
 
 use basis::{digit, high_digit, low_digit, places, put, put_number};
 use rules::{Answer, Lines};
@@ -21,13 +23,6 @@ const NEWLINE: u8 = b'\n';
 // What follows the number, its newline too.
 pub(crate) const FIELDS: usize = 10;
 
-// What came of an order to show a line: the offset just past it, or no room for it.
-#[derive(Clone, Copy)]
-pub enum Shown {
-    Next(usize),
-    NoRoom,
-}
-
 // A character where something is so, else a dash.
 fn or_dash(b: bool, character: u8) -> u8
     ensures { result ≡ or_dash b character }
@@ -35,13 +30,22 @@ fn or_dash(b: bool, character: u8) -> u8
     if b { character } else { DASH }
 }
 
+// A byte in hex, or two dashes.
+fn two_digits(byte: Option<u8>) -> [u8; 2]
+    ensures { result ≡ option_map_or high_digit byte dash ∷ option_map_or low_digit byte dash ∷ [] }
+{
+    match byte {
+        Some(b) => [high_digit(b), low_digit(b)],
+        None => [DASH, DASH],
+    }
+}
+
 // The answer's number, the lines, the byte.
-fn fields(answer: Answer, lines: Lines, given: bool, byte: u8) -> [u8; FIELDS]
-    ensures { result ≡ fields_of answer lines given byte }
+fn fields(answer: Answer, lines: Lines, byte: Option<u8>) -> [u8; FIELDS]
+    ensures { result ≡ fields_of answer lines byte }
 {
     let number = digit(answer.number());
-    let high = high_digit(byte);
-    let low = low_digit(byte);
+    let digits = two_digits(byte);
     [
         SPACE,
         number,
@@ -50,8 +54,8 @@ fn fields(answer: Answer, lines: Lines, given: bool, byte: u8) -> [u8; FIELDS]
         or_dash(lines.exception, LETTER_E),
         or_dash(lines.direction, LETTER_D),
         SPACE,
-        or_dash(given, high),
-        or_dash(given, low),
+        digits[0],
+        digits[1],
         NEWLINE,
     ]
 }
@@ -63,34 +67,32 @@ pub(crate) fn put_line(
     number: u64,
     answer: Answer,
     lines: Lines,
-    given: bool,
-    byte: u8,
+    byte: Option<u8>,
 ) -> usize
     requires { at + line_size number ≤ length out.old }
-    ensures { (result ≡ at + line_size number) × (out.new ≡ placed out.old at (line_of number answer lines given byte)) }
+    ensures { (result ≡ at + line_size number) × (out.new ≡ placed out.old at (line_of number answer lines byte)) }
 {
     let k = places(number);
     put_number(out, at, number, k);
-    let rest = fields(answer, lines, given, byte);
+    let rest = fields(answer, lines, byte);
     put(out, at + k, &rest);
     at + k + FIELDS
 }
 
-// The line of an answered event at an offset of the buffer; without room for all of it nothing is written.
+// The line of an answered event at an offset of the buffer, and the offset just past it; without room for all of it nothing is written.
 pub fn show_line(
     out: &mut [u8],
     at: usize,
     number: u64,
     answer: Answer,
     lines: Lines,
-    given: bool,
-    byte: u8,
-) -> Shown
-    ensures { page result out.new ≡ shown_at out.old at (line_of number answer lines given byte) }
+    byte: Option<u8>,
+) -> Option<usize>
+    ensures { page result out.new ≡ shown_at out.old at (line_of number answer lines byte) }
 {
     if tape::has_room(at, places(number) + FIELDS, out.len()) {
-        Shown::Next(put_line(out, at, number, answer, lines, given, byte))
+        Some(put_line(out, at, number, answer, lines, byte))
     } else {
-        Shown::NoRoom
+        None
     }
 }

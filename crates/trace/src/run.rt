@@ -1,6 +1,6 @@
 // Events run one after the other over a unit and its tapes, and a line shown for each.
 ghost use Rattle.std.specs.Prelude.{◌≡◌, true, length};
-ghost use Rattle.rules.specs.Unit.{lent};
+ghost use Rattle.unit.specs.Tapes.{lent_on, Same};
 ghost use Rattle.trace.specs.Play.{has_room, stops, AnswersOne, Plays};
 
 use crate::cut::next_size;
@@ -8,12 +8,10 @@ use crate::line::{FIELDS, put_line};
 use basis::places;
 use rules::{Answer, Core};
 use tape::BODY;
+use unit::Tapes;
 
 // The highest number that an event can have.
 const LAST_NUMBER: u64 = u64::MAX;
-
-// The answer after which reading stops.
-const STOP: u8 = 4;
 
 // Why a run halted: no whole event is left, no room is left for its line, or an answer 4 stopped it.
 #[derive(Clone, Copy)]
@@ -51,54 +49,37 @@ fn has_room(room: usize, full: usize, count: u64) -> bool
     false
 }
 
+// Whether reading stops after this answer.
 fn stops(answer: Answer) -> bool
     ensures { result ≡ stops answer }
 {
-    answer.number() == STOP
+    matches!(answer, Answer::Malformed)
 }
 
 // One event answered, and its line written where the output ends.
 fn answer_event(
     core: Core,
     staging: &mut [u8; BODY],
-    tape0: &mut [u8],
-    tape1: &mut [u8],
-    tape2: &mut [u8],
-    tape3: &mut [u8],
+    tapes: &mut Tapes<'_>,
     event: &[u8],
     count: u64,
     out: &mut [u8],
     full: usize,
 ) -> Answered
     requires { has_room (length out.old) full count ≡ true }
-    ensures { AnswersOne core
-        (lent staging.old tape0.old tape1.old tape2.old tape3.old)
+    ensures answers { AnswersOne core
+        (lent_on staging.old tapes.old)
         event.now count out.old full result
-        (lent staging.new tape0.new tape1.new tape2.new tape3.new)
+        (lent_on staging.new tapes.new)
         out.new }
+    ensures same { Same tapes.old tapes.new }
 {
-    let turn = unit::step_lent(core, staging, tape0, tape1, tape2, tape3, event);
-    let answer = turn.answer;
-    let lines = turn.lines;
-    let after = turn.core;
-    let next = put_line(out, full, count + 1, answer, lines, turn.given, turn.byte);
+    let turn = unit::step_lent(core, staging, tapes, event);
+    let next = put_line(out, full, count + 1, turn.answer, turn.lines, turn.byte);
     Answered {
-        core: after,
+        core: turn.core,
         full: next,
-        stop: stops(answer),
-    }
-}
-
-// What a run hands back where it halts.
-fn hand_back(core: Core, used: usize, written: usize, count: u64, halt: Halt) -> Played
-    ensures { result ≡ record { core = core; used = used; written = written; count = count; halt = halt } }
-{
-    Played {
-        core,
-        used,
-        written,
-        count,
-        halt,
+        stop: stops(turn.answer),
     }
 }
 
@@ -107,53 +88,45 @@ fn hand_back(core: Core, used: usize, written: usize, count: u64, halt: Halt) ->
 pub fn play(
     core: Core,
     staging: &mut [u8; BODY],
-    tape0: &mut [u8],
-    tape1: &mut [u8],
-    tape2: &mut [u8],
-    tape3: &mut [u8],
+    tapes: &mut Tapes<'_>,
     input: &[u8],
     ending: bool,
     count: u64,
     out: &mut [u8],
 ) -> Played
-    ensures { Plays core
-        (lent staging.old tape0.old tape1.old tape2.old tape3.old)
+    ensures plays { Plays core
+        (lent_on staging.old tapes.old)
         input.now ending count out.old result
-        (lent staging.new tape0.new tape1.new tape2.new tape3.new)
+        (lent_on staging.new tapes.new)
         out.new }
+    ensures same { Same tapes.old tapes.new }
 {
     let mut c = core;
     let mut used: usize = 0;
     let mut written: usize = 0;
     let mut n = count;
-    loop {
-        let size = next_size(&input[used..], ending);
-        if size == 0 {
-            return hand_back(c, used, written, n, Halt::InputOut);
+    let halt = loop {
+        let Some(size) = next_size(&input[used..], ending) else {
+            break Halt::InputOut;
+        };
+        if !has_room(out.len(), written, n) {
+            break Halt::RoomOut;
         }
-        if has_room(out.len(), written, n) {
-            let end = used + size;
-            let a = answer_event(
-                c,
-                staging,
-                tape0,
-                tape1,
-                tape2,
-                tape3,
-                &input[used..end],
-                n,
-                out,
-                written,
-            );
-            c = a.core;
-            used = end;
-            written = a.full;
-            n += 1;
-            if a.stop {
-                return hand_back(c, used, written, n, Halt::Stopped);
-            }
-        } else {
-            return hand_back(c, used, written, n, Halt::RoomOut);
+        let end = used + size;
+        let a = answer_event(c, staging, tapes, &input[used..end], n, out, written);
+        c = a.core;
+        used = end;
+        written = a.full;
+        n += 1;
+        if a.stop {
+            break Halt::Stopped;
         }
+    };
+    Played {
+        core: c,
+        used,
+        written,
+        count: n,
+        halt,
     }
 }

@@ -6,7 +6,8 @@ use mathlib.Core.List.{List, [], ◌∷◌}
 use native.Mathlib.Omega.{arith}
 use native.Mathlib.Nat.{add-zero}
 use native.Mathlib.Numerals.{add-one}
-use lib.ListN.{length, get_or, drop, set, replicate, length-set, length-drop}
+use Rattle.std.specs.Prelude.{None, Some}
+use lib.ListN.{length, get_or, drop, set, length-set, length-drop}
 use lib.Seq.{sets, length-take-le}
 use lib.Dec.{ltb}
 use borrow.Author.Tests.{ltb-true, ltb-false}
@@ -46,12 +47,12 @@ some_picked false x k is some = absurd (none is)
     none z = omega (arith, z, some)
 
 -- What is ahead is wanted, and where there is some the block has begun or begins, and its last byte is not among them.
-pub record Some (rest : Bool) (n want k : ℕ) : Type 0 where
+pub record SomeAhead (rest : Bool) (n want k : ℕ) : Type 0 where
   pub begun : (rest || ltb 0 n) ≡ true
   pub within : n + k ≤ last_place
   pub wanted : k ≤ want
 
-pub ahead_some : (rest : Bool) (n want k : ℕ) → k ≡ ahead_of rest n want → 1 ≤ k → Some rest n want k
+pub ahead_some : (rest : Bool) (n want k : ℕ) → k ≡ ahead_of rest n want → 1 ≤ k → SomeAhead rest n want k
 unfolding pick ahead_of
 ahead_some rest n want k is some =
     let begun = some_picked (rest || ltb 0 n) _ k is some in
@@ -59,7 +60,7 @@ ahead_some rest n want k is some =
     let lt = ltb-true n last_place in_block.0 in
     go lt begun.0 (ltb want (last_place - n)) refl in_block.1
   where
-    go : n < last_place → (rest || ltb 0 n) ≡ true → (f : Bool) → ltb want (last_place - n) ≡ f → k ≡ pick f want (last_place - n) → Some rest n want k
+    go : n < last_place → (rest || ltb 0 n) ≡ true → (f : Bool) → ltb want (last_place - n) ≡ f → k ≡ pick f want (last_place - n) → SomeAhead rest n want k
     go lt b true f k-is = let few = ltb-true want (last_place - n) f in record { begun = b; within = omega (arith, k-is, few, lt); wanted = omega (arith, k-is) }
     go lt b false f k-is = let many = ltb-false want (last_place - n) f in record { begun = b; within = omega (arith, k-is, lt); wanted = omega (arith, k-is, many) }
 
@@ -88,7 +89,7 @@ module _ (c : Core) (l : Lent) where
 
   gives_on : (bs : List ℕ) (n : ℕ) (g : List ℕ) → writes d ≡ true → n + length bs ≤ last_place → length g ≡ 512
       → (possible (moved_to c (place_at n)) && short (put_staging l g)) ≡ true
-      → Ran (world (moved_to c (place_at n)) (put_staging l g)) (given_each bs) (glided c Taking false n (replicate (length bs) 0))
+      → Ran (world (moved_to c (place_at n)) (put_staging l g)) (given_each bs) (glided c Taking (λ b. None) n bs)
       (world (moved_to c (place_at (n + length bs))) (put_staging l (sets g n bs)))
   gives_on [] n g writing fits size calm =
       renamed refl refl (ap (λ (m : ℕ). world (moved_to c (place_at m)) (put_staging l g)) (sym (add-zero n))) no_events
@@ -97,9 +98,9 @@ module _ (c : Core) (l : Lent) where
       let at = moved_to c (place_at n) in
       let put : staged_byte (given_before (place_at n)) b g ≡ set g n b = ap (λ (m : ℕ). staged_byte m b g) (given_place_lem n) ∙ staged_there g n b lt in
       let one = byte_given_lem at (put_staging l g) (2 ∷ b ∷ []) calm n b (given_place_lem n) lt (may_give n d b writing) writing (give_event b) in
-      let step : Steps at (put_staging l g) (2 ∷ b ∷ []) (moved_on c (Taking (suc n)) false 0 false) (put_staging l (set g n b)) =
-      subst (λ (m : ℕ). Steps at (put_staging l g) (2 ∷ b ∷ []) (moved_on c (Taking m) false 0 false) (put_staging l (set g n b))) (add-one n)
-      (subst (λ (x : List ℕ). Steps at (put_staging l g) (2 ∷ b ∷ []) (moved_on c (Taking (n + 1)) false 0 false) (put_staging l x)) put one) in
+      let step : Steps at (put_staging l g) (2 ∷ b ∷ []) (moved_on c (Taking (suc n)) None false) (put_staging l (set g n b)) =
+      subst (λ (m : ℕ). Steps at (put_staging l g) (2 ∷ b ∷ []) (moved_on c (Taking m) None false) (put_staging l (set g n b))) (add-one n)
+      (subst (λ (x : List ℕ). Steps at (put_staging l g) (2 ∷ b ∷ []) (moved_on c (Taking (n + 1)) None false) (put_staging l x)) put one) in
       let calm' = calm_on step size calm (short_put l (set g n b) ∙ sym (short_put l g)) in
       let rest = gives_on bs (suc n) (set g n b) writing (omega (arith, fits)) (length-set g n b ∙ size) calm' in
       let far : suc n + length bs ≡ n + suc (length bs) = omega arith in
@@ -110,7 +111,7 @@ module _ (c : Core) (l : Lent) where
 
   takes_on : (k n : ℕ) → reads d ≡ true → is_block (found_at t d.head) ≡ true → n + k ≤ last_place → length l.staging ≡ 512
       → (possible (moved_to c (taken_at n)) && short l) ≡ true
-      → Ran (world (moved_to c (taken_at n)) l) (taken_times k) (glided c Giving true n (each k (d.head + 1 + n) t)) (world (moved_to c (taken_at (n + k))) l)
+      → Ran (world (moved_to c (taken_at n)) l) (taken_times k) (glided c Giving Some n (each k (d.head + 1 + n) t)) (world (moved_to c (taken_at (n + k))) l)
   takes_on zero n reading block fits size calm =
       renamed refl refl (ap (λ (m : ℕ). world (moved_to c (taken_at m)) l) (sym (add-zero n))) no_events
   takes_on (suc k) n reading block fits size calm =
@@ -118,12 +119,12 @@ module _ (c : Core) (l : Lent) where
       let at = moved_to c (taken_at n) in
       let b = get_or t (d.head + 1 + n) 0 in
       let one = byte_taken_lem at l (3 ∷ []) calm n refl lt reading block take_event in
-      let step : Steps at l (3 ∷ []) (moved_on c (Giving (suc n)) true b true) l =
-      subst (λ (m : ℕ). Steps at l (3 ∷ []) (moved_on c (Giving m) true b true) l) (add-one n) one in
+      let step : Steps at l (3 ∷ []) (moved_on c (Giving (suc n)) (Some b) true) l =
+      subst (λ (m : ℕ). Steps at l (3 ∷ []) (moved_on c (Giving m) (Some b) true) l) (add-one n) one in
       let rest = takes_on k (suc n) reading block (omega (arith, fits)) size (calm_on step size calm refl) in
       let far : suc n + k ≡ n + suc k = omega arith in
       let place : d.head + 1 + suc n ≡ suc (d.head + 1 + n) = omega arith in
-      next step (renamed refl (ap (λ (m : ℕ). glided c Giving true (suc n) (each k m t)) place) (ap (λ (m : ℕ). world (moved_to c (taken_at m)) l) far) rest)
+      next step (renamed refl (ap (λ (m : ℕ). glided c Giving Some (suc n) (each k m t)) place) (ap (λ (m : ℕ). world (moved_to c (taken_at m)) l) far) rest)
 
 -- ---- From where the record stands
 
@@ -182,7 +183,7 @@ taken_glide c l k want size is some =
     let all = takes_on c l k n reading.0 block.0 ahead.within size calm' in
     let far = sym (giving_at (n + k) (omega (arith, some))) in
     let bytes = each_is k (d.head + 1 + n) t (omega (arith, whole t d.head block.0, ahead.within)) in
-    renamed (ap (λ (x : Phase). world (moved_to c x) l) here) (ap (glided c Giving true n) bytes) (ap (λ (x : Phase). world (moved_to c x) l) far) all
+    renamed (ap (λ (x : Phase). world (moved_to c x) l) here) (ap (glided c Giving Some n) bytes) (ap (λ (x : Phase). world (moved_to c x) l) far) all
 
 -- no more are ahead than are wanted
 pub given_fits : (c : Core) (calm : Bool) (want k : ℕ) → k ≡ given_ahead c calm want → 1 ≤ k → k ≤ want

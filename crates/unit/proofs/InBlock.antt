@@ -1,12 +1,14 @@
 -- A byte within a block or an octet of a report, found by its place, is the book's step.
 use Prim.Native.Nat.{ℕ, zero, suc, ◌+◌, ◌<◌}
-use mathlib.Core.Path.{◌≡◌, refl, sym, ap, ap₂, subst, ◌∙◌}
+use mathlib.Core.Path.{◌≡◌, refl, sym, ap, ap₂, ◌∙◌}
 use mathlib.Core.Bool.{Bool, true, false, not, ◌&&◌, ◌||◌, false≢true}
 use mathlib.Core.List.{List}
+use Rattle.std.specs.Prelude.{Option, None, Some, is_some, unwrap_or, option_map}
 use native.Mathlib.Nat.{not-suc-le-zero}
 use lib.ListN.{length, get_or}
 use lib.Dec.{ltb, eqb}
 use borrow.Author.Tests.{lt-ltb, ltb-true, eqb-true}
+use Rattle.std.specs.Prelude.{Option, Some}
 use Rattle.basis.specs.Choice.{pick}
 use Rattle.tape.specs.Record.{found_at}
 use Rattle.rules.specs.declared.drive.Drive.{Drive}
@@ -35,11 +37,10 @@ use Rattle.basis.proofs.Choosing.{both, join, choice_by}
 use Rattle.rules.proofs.Places.{put_back, tape_back}
 use Rattle.rules.proofs.Handing.{taken_at, may_take, taken_is}
 use Rattle.port.proofs.Whole.{is_block_lem}
-use Rattle.unit.specs.declared.within.Next.{Next}
 use Rattle.unit.specs.declared.within.Inside.{Inside}
 use Rattle.answers.specs.declared.looks.Seen.{Seen}
 use Rattle.answers.specs.Looks.{look_of}
-use Rattle.unit.specs.Within.{next_of, PhaseMoves, no_inside, given_inside, taken_inside, inside_of, InsideSteps}
+use Rattle.unit.specs.Within.{next_of, PhaseMoves, given_inside, taken_inside, inside_of, InsideSteps}
 use Rattle.answers.specs.Moved.{moved_on}
 use Rattle.answers.specs.Place.{within, only_at, given_place, taken_place, octets_left, body_of}
 use Rattle.answers.specs.Settled.{settled_by}
@@ -53,18 +54,18 @@ drive_back c ph i =
 
 pub phase_moves : PhaseMoves
 unfolding pick
-phase_moves c l a ph given b fits moves =
+phase_moves c l a ph b fits moves =
     let i = c.port.selected in
     let l' = staged_in c a l in
-    rw (fits) (sym (ap (landed c l') moves ∙ ap₂ (λ (x : Core) (y : Lent). done false given b x y) (drive_back c ph i) (tape_back l' i)))
+    rw (fits) (sym (ap (landed c l') moves ∙ ap₂ (λ (x : Core) (y : Lent). done false b x y) (drive_back c ph i) (tape_back l' i)))
 
 -- the turn of it, where the lines of the drive are known
-lines_known : (c : Core) (ph : Phase) (given : Bool) (b : ℕ) (direction : Bool)
+lines_known : (c : Core) (ph : Phase) (b : Option ℕ) (direction : Bool)
     → lines_at ph (drive_at c c.port.selected) ≡ record { ready = false; exception = false; direction = direction }
-    → moved_on c ph given b direction ≡ taken_turn false given b (moved_to c ph)
+    → moved_on c ph b direction ≡ taken_turn false b (moved_to c ph)
 unfolding pick lines_of
-lines_known c ph given b direction e =
-    ap (λ (x : Lines). record { answer = Taken; given = given; byte = b; lines = x; core = moved_to c ph }) (sym e)
+lines_known c ph b direction e =
+    ap (λ (x : Lines). record { answer = Taken; byte = b; lines = x; core = moved_to c ph }) (sym e)
 
 -- what was looked for and found tells the length and the kind
 only_there : (size kind found : ℕ) (l : List ℕ) → 0 < only_at size kind found l
@@ -108,7 +109,7 @@ outstanding_status (Status k) some = refl
 
 -- so the phase, the place and the event are known
 given_there : (ph : Phase) (l : List ℕ) (n : ℕ) → n ≡ given_place ph l → 0 < n → (ph ≡ Taking n) × (n < last_place)
-    × (event_of l ≡ Own (Give (body_of l)))
+    × (event_of l ≡ Some (Own (Give (body_of l))))
 unfolding pick body_of event_of bodied_event
 given_there ph l n is some =
     let there = only_there 2 2 (within (given_before ph)) l (rw (is) at some) in
@@ -116,18 +117,18 @@ given_there ph l n is some =
     let here : given_before ph ≡ n = sym (is ∙ there.1.1 ∙ place.0) in
     (rw (here) at (given_taking ph (rw (← here) at some)), rw (here) at place.1, rw (there.0, there.1.0) refl)
 
-take_there : (l : List ℕ) → length l ≡ 1 → get_or l 0 0 ≡ 3 → event_of l ≡ Own Take
+take_there : (l : List ℕ) → length l ≡ 1 → get_or l 0 0 ≡ 3 → event_of l ≡ Some (Own Take)
 unfolding pick event_of bare_event
 take_there l p q = rw (p, q) refl
 
-taken_there : (ph : Phase) (l : List ℕ) (n : ℕ) → n ≡ taken_place ph l → 0 < n → (ph ≡ Giving n) × (n < last_place) × (event_of l ≡ Own Take)
+taken_there : (ph : Phase) (l : List ℕ) (n : ℕ) → n ≡ taken_place ph l → 0 < n → (ph ≡ Giving n) × (n < last_place) × (event_of l ≡ Some (Own Take))
 taken_there ph l n is some =
     let there = only_there 1 3 (within (taken_before ph)) l (rw (is) at some) in
     let place = within_there (taken_before ph) (rw (is ∙ there.1.1) at some) in
     let here : taken_before ph ≡ n = sym (is ∙ there.1.1 ∙ place.0) in
     (rw (here) at (taken_giving ph (rw (← here) at some)), rw (here) at place.1, take_there l there.0 there.1.0)
 
-octet_there : (ph : Phase) (l : List ℕ) (k : ℕ) → k ≡ octets_left ph l → 0 < k → (ph ≡ Status k) × (event_of l ≡ Own Take)
+octet_there : (ph : Phase) (l : List ℕ) (k : ℕ) → k ≡ octets_left ph l → 0 < k → (ph ≡ Status k) × (event_of l ≡ Some (Own Take))
 octet_there ph l k is some =
     let there = only_there 1 3 (outstanding ph) l (rw (is) at some) in
     let here : outstanding ph ≡ k = sym (is ∙ there.1.1) in
@@ -151,17 +152,24 @@ reading_lines Reading true so = absurd (false≢true so)
 reading_lines Idle up so = absurd (false≢true so)
 reading_lines Writing up so = absurd (false≢true so)
 
+-- what there is is one thing, and not none
+none_some : {A : Type 0} {x : A} → None ≡ Some x → ⊥
+none_some e = false≢true (ap is_some e)
+
+some_same : {A : Type 0} {x y : A} → Some x ≡ Some y → x ≡ y
+some_same {A} {x} {y} e = ap (λ (o : Option A). unwrap_or o x) e
+
 -- a byte that is there: the drive gives data, a whole block stands at its head, and the byte is of it
-next_there : (d : Drive) (t : List ℕ) (n : ℕ) → (next_of d t n).there ≡ true
-    → (reads d ≡ true) × ((is_block (found_at t d.head) ≡ true) × ((next_of d t n).byte ≡ get_or t (d.head + 1 + n) 0))
+next_there : (d : Drive) (t : List ℕ) (n b : ℕ) → next_of d t n ≡ Some b
+    → (reads d ≡ true) × ((is_block (found_at t d.head) ≡ true) × (b ≡ get_or t (d.head + 1 + n) 0))
 unfolding pick next_of
-next_there d t n so = go (reads d) (is_block (found_at t d.head)) refl refl
+next_there d t n b so = go (reads d) (is_block (found_at t d.head)) refl refl
   where
-    go : (r b : Bool) → reads d ≡ r → is_block (found_at t d.head) ≡ b
-        → (reads d ≡ true) × ((is_block (found_at t d.head) ≡ true) × ((next_of d t n).byte ≡ get_or t (d.head + 1 + n) 0))
-    go true true p q = (p, (q, rw (p, q) refl))
-    go true false p q = absurd (false≢true (rw (p, q) at so))
-    go false b p q = absurd (false≢true (rw (p) at so))
+    go : (r w : Bool) → reads d ≡ r → is_block (found_at t d.head) ≡ w
+        → (reads d ≡ true) × ((is_block (found_at t d.head) ≡ true) × (b ≡ get_or t (d.head + 1 + n) 0))
+    go true true p q = (p, (q, some_same (sym (rw (p, q) at so))))
+    go true false p q = absurd (none_some (rw (p, q) at so))
+    go false w p q = absurd (none_some (rw (p) at so))
 
 -- one event in a possible record with short tapes
 module _ (c : Core) (l : Lent) (event : List ℕ) (calm : (possible c && short l) ≡ true) where
@@ -171,32 +179,32 @@ module _ (c : Core) (l : Lent) (event : List ℕ) (calm : (possible c && short l
   abbrev t : List ℕ
   t = tape_at l c.port.selected
 
-  settles : (r : Turn) (l' : Lent) (e : Event) → event_of event ≡ e → stepped r l' ≡ settled_by c true true l e → Steps c l event r l'
+  settles : (r : Turn) (l' : Lent) (e : Option Event) → event_of event ≡ e → stepped r l' ≡ settled_by c true true l e → Steps c l event r l'
   settles r l' e is by =
       let so = both (possible c) (short l) calm in
       steps_by c l event r l' _ e true true refl is (sym so.0) (sym so.1) by
 
   -- a byte given, where n were given before and it is not the last
   pub byte_given_lem : (n b : ℕ) → given_before c.port.phase ≡ n → n < last_place → in_step_at c.port.phase d (Give b) ≡ true → writes d ≡ true
-      → event_of event ≡ Own (Give b)
-      → Steps c l event (moved_on c (Taking (n + 1)) false 0 false) (put_staging l (staged c.port.phase (Give b) l.staging))
+      → event_of event ≡ Some (Own (Give b))
+      → Steps c l event (moved_on c (Taking (n + 1)) None false) (put_staging l (staged c.port.phase (Give b) l.staging))
   unfolding pick
   byte_given_lem n b before lt fits writing is =
-      let shown = lines_known c (Taking (n + 1)) false 0 false (writing_lines d.mode d.exception writing) in
-      let moves = phase_moves c l (Give b) (Taking (n + 1)) false 0 fits (rw (before, lt-ltb n last_place lt) refl) in
-      settles _ _ (Own (Give b)) is (ap (λ (x : Turn). stepped x (staged_in c (Give b) l)) shown ∙ moves)
+      let shown = lines_known c (Taking (n + 1)) None false (writing_lines d.mode d.exception writing) in
+      let moves = phase_moves c l (Give b) (Taking (n + 1)) None fits (rw (before, lt-ltb n last_place lt) refl) in
+      settles _ _ (Some (Own (Give b))) is (ap (λ (x : Turn). stepped x (staged_in c (Give b) l)) shown ∙ moves)
 
   -- a byte taken, where n were taken before and it is not the last
   pub byte_taken_lem : (n : ℕ) → c.port.phase ≡ taken_at n → n < last_place → reads d ≡ true → is_block (found_at t d.head) ≡ true
-      → event_of event ≡ Own Take → Steps c l event (moved_on c (Giving (n + 1)) true (get_or t (d.head + 1 + n) 0) true) l
+      → event_of event ≡ Some (Own Take) → Steps c l event (moved_on c (Giving (n + 1)) (Some (get_or t (d.head + 1 + n) 0)) true) l
   unfolding pick handed
   byte_taken_lem n at lt reading whole is =
       let b = get_or t (d.head + 1 + n) 0 in
-      let shown = lines_known c (Giving (n + 1)) true b true (reading_lines d.mode d.exception reading) in
+      let shown = lines_known c (Giving (n + 1)) (Some b) true (reading_lines d.mode d.exception reading) in
       let part : handed (seat_of c l) n ≡ hands false b (at_phase (Giving (n + 1)) c.port) d t = rw (lt-ltb n last_place lt) refl in
-      let moves = phase_moves c l Take (Giving (n + 1)) true b (rw (at) (may_take n d reading))
+      let moves = phase_moves c l Take (Giving (n + 1)) (Some b) (rw (at) (may_take n d reading))
       (ap (byte_taken (seat_of c l)) at ∙ taken_is (seat_of c l) n (is_block_lem _ whole) ∙ part) in
-      settles _ _ (Own Take) is (ap (λ (x : Turn). stepped x l) shown ∙ moves)
+      settles _ _ (Some (Own Take)) is (ap (λ (x : Turn). stepped x l) shown ∙ moves)
 
 pub giving_at : (n : ℕ) → 0 < n → Giving n ≡ taken_at n
 giving_at zero some = absurd (not-suc-le-zero some)
@@ -210,7 +218,7 @@ module _ (c : Core) (l : Lent) (event : List ℕ) (r : Turn) (p s : Bool) (ok : 
   -- a byte given within a block
   pub given_steps : (g : List ℕ) (n : ℕ) (seen : Seen) → n ≡ given_place c.port.phase event → 0 < n
       → seen ≡ look_of (drive_at c c.port.selected) → ((p && s) && seen.writes) ≡ true
-      → r ≡ moved_on c (Taking (n + 1)) false 0 false → g ≡ staged c.port.phase (Give (body_of event)) l.staging
+      → r ≡ moved_on c (Taking (n + 1)) None false → g ≡ staged c.port.phase (Give (body_of event)) l.staging
       → Steps c l event r (put_staging l g)
   given_steps g n seen is some looked so turn put =
       let free = both (p && s) seen.writes so in
@@ -219,48 +227,53 @@ module _ (c : Core) (l : Lent) (event : List ℕ) (r : Turn) (p s : Bool) (ok : 
       rw (turn, put) (byte_given_lem c l event (calm free.0) n (body_of event) (ap given_before place.0) place.1 (rw place.0 writing) writing place.2)
 
   -- a byte taken within a block
-  pub taken_steps : (n : ℕ) (next : Next) → n ≡ taken_place c.port.phase event → 0 < n
-      → next ≡ next_of (drive_at c c.port.selected) (tape_at l c.port.selected) n → ((p && s) && next.there) ≡ true
-      → r ≡ moved_on c (Giving (n + 1)) true next.byte true → Steps c l event r l
-  taken_steps n next is some byte so turn =
-      let free = both (p && s) next.there so in
+  pub taken_steps : (n b : ℕ) → n ≡ taken_place c.port.phase event → 0 < n → (p && s) ≡ true
+      → next_of (drive_at c c.port.selected) (tape_at l c.port.selected) n ≡ Some b
+      → r ≡ moved_on c (Giving (n + 1)) (Some b) true → Steps c l event r l
+  taken_steps n b is some so byte turn =
       let place = taken_there c.port.phase event n is some in
-      let found = next_there _ _ n (ap (λ (x : Next). x.there) (sym byte) ∙ free.1) in
-      let here : next.byte ≡ get_or (tape_at l c.port.selected) ((drive_at c c.port.selected).head + 1 + n) 0 =
-      ap (λ (x : Next). x.byte) byte ∙ found.1.1 in
-      rw (turn, here) (byte_taken_lem c l event (calm free.0) n (place.0 ∙ giving_at n some) place.1 found.0 found.1.0 place.2)
+      let found = next_there _ _ n b byte in
+      rw (turn, found.1.1) (byte_taken_lem c l event (calm so) n (place.0 ∙ giving_at n some) place.1 found.0 found.1.0 place.2)
 
   -- an octet of a report
   pub octet_steps : (k b : ℕ) (after : Core) → k ≡ octets_left c.port.phase event → 0 < k → (p && s) ≡ true
-      → r ≡ taken_turn false true b after → b ≡ get_or c.port.octets (octet_place k) 0 → after ≡ moved_to c (after_octet k) → Steps c l event r l
+      → r ≡ taken_turn false (Some b) after → b ≡ get_or c.port.octets (octet_place k) 0 → after ≡ moved_to c (after_octet k) → Steps c l event r l
   unfolding pick octet_taken
   octet_steps k b after is some so turn byte moved =
       let there = octet_there c.port.phase event k is some in
-      let moves = phase_moves c l Take (after_octet k) true b (rw there.0 refl) (rw (there.0, byte) refl) in
-      settles c l event (calm so) r l (Own Take) there.1 (ap (λ (x : Turn). stepped x l) (turn ∙ ap (taken_turn false true b) moved) ∙ moves)
+      let moves = phase_moves c l Take (after_octet k) (Some b) (rw there.0 refl) (rw (there.0, byte) refl) in
+      settles c l event (calm so) r l (Some (Own Take)) there.1 (ap (λ (x : Turn). stepped x l) (turn ∙ ap (taken_turn false (Some b)) moved) ∙ moves)
 
 -- what an event within a block comes to is the book's step
 module _ (c : Core) (l : Lent) (event : List ℕ) (calm : (possible c && short l) ≡ true) where
-  abbrev StepsBy : Inside → Type 0
-  StepsBy i = i.there ≡ true → Steps c l event (moved_on c i.phase i.given i.byte i.given) (staged_in c i.act l)
+  -- where there is one
+  abbrev StepsBy : Option Inside → Type 0
+  StepsBy o = (i : Inside) → o ≡ Some i → Steps c l event (moved_on c i.phase i.byte (is_some i.byte)) (staged_in c i.act l)
 
   abbrev Here : Drive
   Here = drive_at c c.port.selected
 
-  given_inside_lem : 0 < given_place c.port.phase event → writes Here ≡ true → StepsBy (given_inside event (given_place c.port.phase event))
-  given_inside_lem some writing there =
-      given_steps c l event _ (possible c) (short l) refl refl _ _ (look_of Here) refl some refl (join _ _ calm writing) refl refl
+  none_inside : StepsBy None
+  none_inside i there = absurd (none_some there)
 
-  taken_inside_lem : 0 < taken_place c.port.phase event
-      → StepsBy (taken_inside (taken_place c.port.phase event) (next_of Here (tape_at l c.port.selected) (taken_place c.port.phase event)))
-  taken_inside_lem some =
-      choice_by StepsBy _ (λ so there. taken_steps c l event _ (possible c) (short l) refl refl _ _ refl some refl (join _ _ calm so) refl)
-      (λ so there. absurd (false≢true there))
+  given_inside_lem : 0 < given_place c.port.phase event → writes Here ≡ true → StepsBy (Some (given_inside event (given_place c.port.phase event)))
+  given_inside_lem some writing i there =
+      rw (sym (some_same there))
+      (given_steps c l event _ (possible c) (short l) refl refl _ _ (look_of Here) refl some refl (join _ _ calm writing) refl refl)
+
+  taken_inside_lem : 0 < taken_place c.port.phase event → StepsBy
+      (option_map (taken_inside (taken_place c.port.phase event)) (next_of Here (tape_at l c.port.selected) (taken_place c.port.phase event)))
+  taken_inside_lem some = go _ refl
+    where
+      go : (o : Option ℕ) → next_of Here (tape_at l c.port.selected) (taken_place c.port.phase event) ≡ o
+          → StepsBy (option_map (taken_inside (taken_place c.port.phase event)) o)
+      go None is i there = none_inside i there
+      go (Some b) is i there =
+          rw (sym (some_same there)) (taken_steps c l event _ (possible c) (short l) refl refl _ b refl some calm is refl)
 
 pub inside_steps : InsideSteps
 unfolding inside_of
-inside_steps c l event i calm is there =
-    let P : Inside → Type 0 = StepsBy c l event calm in
-    let none : P no_inside = λ no. absurd (false≢true no) in
-    subst P (sym is) (choice_by P _ (λ so. let free = both _ _ so in given_inside_lem c l event calm (ltb-true _ _ free.0) free.1)
-    (λ so. choice_by P _ (λ more. taken_inside_lem c l event calm (ltb-true _ _ more)) (λ more. none))) there
+inside_steps c l event i calm is =
+    let P : Option Inside → Type 0 = StepsBy c l event calm in
+    choice_by P _ (λ so. let free = both _ _ so in given_inside_lem c l event calm (ltb-true _ _ free.0) free.1)
+    (λ so. choice_by P _ (λ more. taken_inside_lem c l event calm (ltb-true _ _ more)) (λ more. none_inside c l event calm)) i is

@@ -6,13 +6,15 @@ use mathlib.Core.List.{List, [], ◌∷◌, ◌++◌}
 use native.Mathlib.Omega.{arith}
 use native.Mathlib.Nat.{zero-add, suc-add}
 use native.Mathlib.Numerals.{add-one}
-use lib.ListN.{length, get_or, take, drop, set, replicate, length-replicate, get_or-replicate, take-append-drop, drop_of_length-le}
+use lib.ListN.{length, get_or, take, drop, take-append-drop, drop_of_length-le}
 use lib.Seq.{length-take-le, drop-drop}
 use lib.Dec.{eqb}
+use Rattle.std.specs.Prelude.{Option, None, Some, is_some, option_to_list}
+use Rattle.std.specs.List.{cons_option}
 use borrow.Author.Tests.{eqb-true}
 use Rattle.basis.specs.Choice.{pick}
 use Rattle.basis.specs.Placed.{placed}
-use Rattle.basis.proofs.Placing.{placed_none, placed_sets, placed_byte, placed_then}
+use Rattle.basis.proofs.Placing.{placed_byte, placed_then}
 use Rattle.rules.specs.declared.phase.Phase.{Phase}
 use Rattle.rules.specs.declared.phase.Phase.TheVariants.{Taking, Giving}
 use Rattle.rules.specs.declared.unit.Core.{Core}
@@ -26,10 +28,10 @@ use Rattle.rules.specs.Refusal.{possible, short}
 use Rattle.rules.specs.Step.{Steps}
 use Rattle.rules.specs.Run.{World, world, given_each, taken_times}
 use Rattle.rules.specs.Ran.{Ran, no_events, next}
-use Rattle.rules.specs.Reach.{only_if}
 use Rattle.rules.specs.Promises.Strike.{AllTaken, handed_out}
 use Rattle.rules.proofs.Table.{numbers_tell_apart}
 use Rattle.rules.proofs.Handing.{take_event}
+use Rattle.rules.proofs.Blocks.{handed_append}
 use Rattle.answers.specs.Moved.{moved_on}
 use Rattle.unit.specs.declared.many.Handed.{Handed}
 use Rattle.unit.specs.Handover.{is_zero, up_to, went_in, went_out, count_of, last_of, GivesOver, took, taken_over, TakesOver}
@@ -41,37 +43,40 @@ use Rattle.unit.proofs.Ahead.{renamed, given_glide, taken_glide, given_fits, tak
 
 -- ---- The turns of a stretch
 
-module _ (c : Core) (ph : ℕ → Phase) (given : Bool) where
-  all_taken : (n : ℕ) (bs : List ℕ) → AllTaken (glided c ph given n bs)
+module _ (c : Core) (ph : ℕ → Phase) (out : ℕ → Option ℕ) where
+  -- a byte that comes m-th
+  abbrev turn_at : ℕ → ℕ → Turn
+  turn_at m b = moved_on c (ph m) (out b) (is_some (out b))
+
+  all_taken : (n : ℕ) (bs : List ℕ) → AllTaken (glided c ph out n bs)
   all_taken n [] = tt
   all_taken n (b ∷ bs) = (refl, all_taken (suc n) bs)
 
-  count_each : (went : Turn → Bool) → ((m b : ℕ) → went (moved_on c (ph m) given b given) ≡ true) → (n : ℕ) (bs : List ℕ)
-      → count_of went (glided c ph given n bs) ≡ length bs
+  count_each : (went : Turn → Bool) → ((m b : ℕ) → went (turn_at m b) ≡ true) → (n : ℕ) (bs : List ℕ)
+      → count_of went (glided c ph out n bs) ≡ length bs
   unfolding pick
   count_each went so n [] = refl
   count_each went so n (b ∷ bs) = rw (so (suc n) b) (omega (arith, count_each went so (suc n) bs))
 
   -- the last of them
   last_glided : (x : Turn) (n b : ℕ) (bs : List ℕ)
-      → last_of x (glided c ph given n (b ∷ bs)) ≡ moved_on c (ph (n + length (b ∷ bs))) given (get_or (b ∷ bs) (length bs) 0) given
-  last_glided x n b [] = ap (λ (m : ℕ). moved_on c (ph m) given b given) (sym (add-one n))
+      → last_of x (glided c ph out n (b ∷ bs)) ≡ turn_at (n + length (b ∷ bs)) (get_or (b ∷ bs) (length bs) 0)
+  last_glided x n b [] = ap (λ (m : ℕ). turn_at m b) (sym (add-one n))
   last_glided x n b (b' ∷ bs) =
       let far : suc n + length (b' ∷ bs) ≡ n + length (b ∷ b' ∷ bs) = omega arith in
-      last_glided (moved_on c (ph (suc n)) given b given) (suc n) b' bs
-      ∙ ap (λ (m : ℕ). moved_on c (ph m) given (get_or (b' ∷ bs) (length bs) 0) given) far
+      last_glided (turn_at (suc n) b) (suc n) b' bs ∙ ap (λ (m : ℕ). turn_at m (get_or (b' ∷ bs) (length bs) 0)) far
 
   last_some : (x : Turn) (n : ℕ) (bs : List ℕ) → 1 ≤ length bs
-      → last_of x (glided c ph given n bs) ≡ moved_on c (ph (n + length bs)) given (get_or bs (length bs - 1) 0) given
+      → last_of x (glided c ph out n bs) ≡ turn_at (n + length bs) (get_or bs (length bs - 1) 0)
   last_some x n [] some = absurd (none some)
     where
       none : 1 ≤ 0 → ⊥
       none h = omega (arith, h)
   last_some x n (b ∷ bs) some =
       let end : length bs ≡ length (b ∷ bs) - 1 = omega arith in
-      last_glided x n b bs ∙ ap (λ (i : ℕ). moved_on c (ph (n + length (b ∷ bs))) given (get_or (b ∷ bs) i 0) given) end
+      last_glided x n b bs ∙ ap (λ (i : ℕ). turn_at (n + length (b ∷ bs)) (get_or (b ∷ bs) i 0)) end
 
-out_each : (c : Core) (n : ℕ) (bs : List ℕ) → handed_out (glided c Giving true n bs) ≡ bs
+out_each : (c : Core) (n : ℕ) (bs : List ℕ) → handed_out (glided c Giving Some n bs) ≡ bs
 out_each c n [] = refl
 out_each c n (b ∷ bs) = ap (λ (l : List ℕ). b ∷ l) (out_each c (suc n) bs)
 
@@ -132,30 +137,27 @@ given_append (x ∷ xs) ys = ap (λ (l : List (List ℕ)). (2 ∷ x ∷ []) ∷ 
 
 pub given_leg : (c : Core) (l : Lent) (bytes : List ℕ) (k : ℕ) (last : Turn) (g : List ℕ) → length l.staging ≡ 512
     → k ≡ given_ahead c (possible c && short l) (length bytes) → 1 ≤ k
-    → last ≡ moved_on c (Taking (given_before c.port.phase + k)) false 0 false → g ≡ placed l.staging (given_before c.port.phase) (take k bytes)
+    → last ≡ moved_on c (Taking (given_before c.port.phase + k)) None false → g ≡ placed l.staging (given_before c.port.phase) (take k bytes)
     → GivesSome c l bytes (record { count = k; last = last }) (put_staging l g)
 given_leg c l bytes k last g size is some turn put =
     let n = given_before c.port.phase in
     let fits = given_fits c (possible c && short l) (length bytes) k is some in
     let bs = take k bytes in
     let long : length bs ≡ k = length-take-le k bytes fits in
-    let zeros : List ℕ = replicate k 0 in
-    let as_many : length zeros ≡ k = length-replicate k 0 in
     let glide = given_glide c l bs (length bytes) size (long ∙ is) (omega (arith, long, some)) in
     let end : world (moved_to c (Taking (n + length bs))) (put_staging l (placed l.staging n bs)) ≡ world last.core (put_staging l g) =
     ap₂ (λ (x : Core) (y : List ℕ). world x (put_staging l y)) (ap (λ (m : ℕ). moved_to c (Taking (n + m))) long ∙ ap (λ (x : Turn). x.core) (sym turn)) (sym put) in
-    let ran = renamed refl (ap (λ (m : ℕ). glided c Taking false n (replicate m 0)) long) end glide in
-    let many : 1 ≤ length zeros = omega (arith, as_many, some) in
-    let byte : get_or zeros (length zeros - 1) 0 ≡ 0 = get_or-replicate k (length zeros - 1) 0 0 (omega (arith, as_many, some)) in
+    let ran = renamed refl refl end glide in
+    let many : 1 ≤ length bs = omega (arith, long, some) in
+    let none : ℕ → Option ℕ = λ b. None in
     record {
-      rs = glided c Taking false n zeros;
+      rs = glided c Taking none n bs;
       leg =
           stretch_leg went_in (world c l) (given_each bytes) (given_each bs) (given_each (drop k bytes)) (record { count = k; last = last }) (put_staging l g)
-          (glided c Taking false n zeros) (ap given_each (sym (take-append-drop k bytes)) ∙ given_append bs (drop k bytes)) ran
-          (all_taken c Taking false n zeros)
-          (λ x. last_some c Taking false x n zeros many
-          ∙ ap₂ (λ (m b : ℕ). moved_on c (Taking (n + m)) false b false) (as_many) byte ∙ sym turn)
-          (count_each c Taking false went_in (λ m b. refl) n zeros ∙ as_many) (ap is_zero turn) some;
+          (glided c Taking none n bs) (ap given_each (sym (take-append-drop k bytes)) ∙ given_append bs (drop k bytes)) ran
+          (all_taken c Taking none n bs)
+          (λ x. last_some c Taking none x n bs many ∙ ap (λ (m : ℕ). moved_on c (Taking (n + m)) None false) long ∙ sym turn)
+          (count_each c Taking none went_in (λ m b. refl) n bs ∙ long) (ap is_zero turn) some;
       fits = fits;
     }
 
@@ -185,7 +187,7 @@ taken_append (suc k) m = ap taken_times (suc-add k m) ∙ ap (λ (l : List (List
 pub taken_leg : (c : Core) (l : Lent) (out : List ℕ) (at k : ℕ) (last : Turn) (out' : List ℕ) → length l.staging ≡ 512 → at ≤ length out
     → k ≡ taken_ahead c (possible c && short l) (tape_at l c.port.selected) (length out - at) → 1 ≤ k
     → out' ≡ placed out at (next_bytes (drive_at c c.port.selected) (tape_at l c.port.selected) c.port.phase k)
-    → last ≡ moved_on c (Giving (taken_before c.port.phase + k)) true (get_or out' (at + k - 1) 0) true
+    → last ≡ moved_on c (Giving (taken_before c.port.phase + k)) (Some (get_or out' (at + k - 1) 0)) true
     → TakesSome c l out at (record { count = k; last = last }) l out'
 taken_leg c l out at k last out' size inside is some put turn =
     let ph = c.port.phase in
@@ -202,20 +204,20 @@ taken_leg c l out at k last out' size inside is some put turn =
     ap₂ (λ (o : List ℕ) (i : ℕ). get_or o i 0) put end ∙ placed_byte out at bs (omega (arith, long, fits, inside)) (length bs - 1) (omega (arith, many)) in
     let all : length out - at ≡ k + (length out - (at + k)) = omega (arith, fits, inside) in
     record {
-      rs = glided c Giving true n bs;
+      rs = glided c Giving Some n bs;
       leg =
           stretch_leg went_out (world c l) (taken_times (length out - at)) (taken_times k) (taken_times (length out - (at + k)))
-          (record { count = k; last = last }) l (glided c Giving true n bs) (ap taken_times all ∙ taken_append k (length out - (at + k))) ran
-          (all_taken c Giving true n bs)
-          (λ x. last_some c Giving true x n bs many ∙ ap₂ (λ (m b : ℕ). moved_on c (Giving (n + m)) true b true) long (sym byte) ∙ sym turn)
-          (count_each c Giving true went_out (λ m b. refl) n bs ∙ long) (ap is_zero turn) some;
+          (record { count = k; last = last }) l (glided c Giving Some n bs) (ap taken_times all ∙ taken_append k (length out - (at + k))) ran
+          (all_taken c Giving Some n bs)
+          (λ x. last_some c Giving Some x n bs many ∙ ap₂ (λ (m b : ℕ). moved_on c (Giving (n + m)) (Some b) true) long (sym byte) ∙ sym turn)
+          (count_each c Giving Some went_out (λ m b. refl) n bs ∙ long) (ap is_zero turn) some;
       fits = omega (arith, fits, inside);
       bytes = put ∙ ap (placed out at) (sym (out_each c n bs));
     }
 
 -- one event taken: a byte handed out is put into the buffer
 pub taken_one : (c : Core) (l : Lent) (out : List ℕ) (at k : ℕ) (t : Turn) (l' : Lent) (out' : List ℕ) → length l.staging ≡ 512 → at < length out
-    → Steps c l (3 ∷ []) t l' → k ≡ pick t.given 1 0 → out' ≡ pick t.given (set out at t.byte) out
+    → Steps c l (3 ∷ []) t l' → k ≡ pick (is_some t.byte) 1 0 → out' ≡ placed out at (option_to_list t.byte)
     → TakesSome c l out at (record { count = k; last = t }) l' out'
 unfolding pick
 taken_one c l out at k t l' out' size inside step count put =
@@ -225,17 +227,17 @@ taken_one c l out at k t l' out' size inside step count put =
       leg =
           step_leg went_out c l (3 ∷ []) (taken_times (length out - at)) (taken_times (length out - (at + 1))) (taken_times (length out - (at + k))) t l' k step count
           (went_out_lem c l t l' size step) (ap taken_times all) (λ one. ap (λ (m : ℕ). taken_times (length out - (at + m))) (sym one));
-      fits = at_most t.given count;
-      bytes = put ∙ placed_if t.given;
+      fits = at_most (is_some t.byte) count;
+      bytes = put ∙ ap (placed out at) (one_out t.byte);
     }
   where
     at_most : (b : Bool) → k ≡ pick b 1 0 → at + k ≤ length out
     at_most true e = omega (arith, e, inside)
     at_most false e = omega (arith, e, inside)
 
-    placed_if : (b : Bool) → pick b (set out at t.byte) out ≡ placed out at (only_if b t.byte [])
-    placed_if true = sym (placed_sets out at (t.byte ∷ []) (omega (arith, inside)))
-    placed_if false = sym (placed_none out at)
+    one_out : (o : Option ℕ) → option_to_list o ≡ cons_option o []
+    one_out None = refl
+    one_out (Some b) = refl
 
 -- ---- Leg after leg
 
@@ -266,23 +268,15 @@ module _ (c₀ : Core) (l₀ : Lent) (bytes : List ℕ) (n : ℕ) (last : Turn) 
   given_ends at all = (ends went_in c₀ l₀ (given_each bytes) n last l (given_each (drop n bytes)) at.rs at.at (ap given_each (drop_of_length-le bytes all))).is
 
 -- the bytes handed out, turn after turn
-out_append : (rs ts : List Turn) → handed_out (rs ++ ts) ≡ handed_out rs ++ handed_out ts
-out_append [] ts = refl
-out_append (r ∷ rs) ts = go r.given (out_append rs ts)
-  where
-    go : (b : Bool) → handed_out (rs ++ ts) ≡ handed_out rs ++ handed_out ts
-        → only_if b r.byte (handed_out (rs ++ ts)) ≡ only_if b r.byte (handed_out rs) ++ handed_out ts
-    go true e = ap (λ (x : List ℕ). r.byte ∷ x) e
-    go false e = e
-
 out_count : (rs : List Turn) → length (handed_out rs) ≡ count_of went_out rs
 unfolding pick
 out_count [] = refl
-out_count (r ∷ rs) = go r.given (out_count rs)
+out_count (r ∷ rs) = go r.byte (out_count rs)
   where
-    go : (b : Bool) → length (handed_out rs) ≡ count_of went_out rs → length (only_if b r.byte (handed_out rs)) ≡ pick b 1 0 + count_of went_out rs
-    go true e = omega (arith, e)
-    go false e = omega (arith, e)
+    go : (o : Option ℕ) → length (handed_out rs) ≡ count_of went_out rs
+        → length (cons_option o (handed_out rs)) ≡ pick (is_some o) 1 0 + count_of went_out rs
+    go None e = omega (arith, e)
+    go (Some b) e = omega (arith, e)
 
 module _ (c₀ : Core) (l₀ : Lent) (out₀ : List ℕ) (n : ℕ) (last : Turn) (l : Lent) (out : List ℕ) where
   abbrev TakenSoFar : ℕ → Turn → Lent → List ℕ → Type 0
@@ -298,7 +292,7 @@ module _ (c₀ : Core) (l₀ : Lent) (out₀ : List ℕ) (n : ℕ) (last : Turn)
         some.bytes
         ∙ ap₂ (λ (o : List ℕ) (m : ℕ). placed o m (handed_out some.rs)) at.more (sym so_far ∙ sym (zero-add _))
         ∙ placed_then out₀ 0 (handed_out at.rs) (handed_out some.rs) (omega (arith, so_far, now, some.fits, size))
-        ∙ ap (placed out₀ 0) (sym (out_append at.rs some.rs))
+        ∙ ap (placed out₀ 0) (sym (handed_append at.rs some.rs))
 
     abbrev leg : Leg went_out (world last.core l) (taken_times (length out₀ - n)) r l' (taken_times (length out₀ - (n + r.count))) some.rs
     leg = subst (λ (m : ℕ). Leg went_out (world last.core l) (taken_times (m - n)) r l' (taken_times (m - (n + r.count))) some.rs) size some.leg

@@ -1,6 +1,7 @@
 pub mod Demands
 pub mod Outcomes
 mod Bytes
+pub mod Lending
 pub mod Handover
 pub mod Ahead
 pub mod Legs

@@ -16,7 +16,7 @@ use Rattle.unit.specs.Outcomes.{OneOutcome}
 
 -- an outcome is its turn and its staging block
 abbrev outcome : Turn → List ℕ → Outcome
-outcome t g = record { answer = t.answer; given = t.given; byte = t.byte; lines = t.lines; unit = record { core = t.core; staging = g } }
+outcome t g = record { answer = t.answer; byte = t.byte; lines = t.lines; unit = record { core = t.core; staging = g } }
 
 -- what a call hands back is its count and its last turn
 abbrev handed : Over → Handed

@@ -1,5 +1,5 @@
 -- Bytes that come before the last of a block: each moves the phase alone, so that many of them go by one copy.
-use Rattle.std.specs.Prelude.{ℕ, suc, ◌+◌, ◌-◌, ◌≤◌, ◌≡◌, Bool, true, false, ◌&&◌, ◌||◌, List, [], ◌∷◌, ◌++◌, length, take, drop, replicate, ltb}
+use Rattle.std.specs.Prelude.{ℕ, suc, ◌+◌, ◌-◌, ◌≤◌, ◌≡◌, Bool, true, false, ◌&&◌, ◌||◌, List, [], ◌∷◌, ◌++◌, length, take, drop, ltb, Option, None, Some, is_some}
 use Rattle.basis.specs.Choice.{pick}
 use Rattle.basis.specs.Placed.{placed}
 use Rattle.tape.specs.Record.{found_at}
@@ -56,10 +56,10 @@ pub record TakesAhead (c : Core) (calm : Bool) (t out : List ℕ) (at r : ℕ) (
 
 -- ---- That the short way is the long one
 
--- The turns of such bytes, one after the other: in which phase, with or without a byte handed out, from place n on.
-abbrev pub glided : Core → (ℕ → Phase) → Bool → ℕ → List ℕ → List Turn
-glided c ph given n [] = []
-glided c ph given n (b ∷ bs) = moved_on c (ph (suc n)) given b given ∷ glided c ph given (suc n) bs
+-- The turns of such bytes, one after the other: in which phase, and what is handed out at each, from place n on.
+abbrev pub glided : Core → (ℕ → Phase) → (ℕ → Option ℕ) → ℕ → List ℕ → List Turn
+glided c ph out n [] = []
+glided c ph out n (b ∷ bs) = moved_on c (ph (suc n)) (out b) (is_some (out b)) ∷ glided c ph out (suc n) bs
 
 -- Bytes given: they are staged side by side, and no byte is handed out.
 abbrev pub GivenGlide : Type 0
@@ -67,7 +67,7 @@ GivenGlide =
     (c : Core) (l : Lent) (bs : List ℕ) (want : ℕ) → length l.staging ≡ 512
     → length bs ≡ given_ahead c (possible c && short l) want → 1 ≤ length bs
     → let n = given_before c.port.phase in
-    Ran (world c l) (given_each bs) (glided c Taking false n (replicate (length bs) 0))
+    Ran (world c l) (given_each bs) (glided c Taking (λ b. None) n bs)
     (world (moved_to c (Taking (n + length bs))) (put_staging l (placed l.staging n bs)))
 
 -- Bytes taken: they are the tape's own, and nothing that is lent changes.
@@ -77,7 +77,7 @@ TakenGlide =
     → k ≡ taken_ahead c (possible c && short l) (tape_at l c.port.selected) want → 1 ≤ k
     → let n = taken_before c.port.phase in
     Ran (world c l) (taken_times k)
-    (glided c Giving true n (next_bytes (drive_at c c.port.selected) (tape_at l c.port.selected) c.port.phase k))
+    (glided c Giving Some n (next_bytes (drive_at c c.port.selected) (tape_at l c.port.selected) c.port.phase k))
     (world (moved_to c (Giving (n + k))) l)
 
 -- ---- A leg of a call

@@ -1,6 +1,5 @@
 -- The demands hold of the code: they are theorems of the book, and a run of the step is the book's.
-use Rattle.std.specs.Prelude.{ℕ, ◌≤◌, ◌≡◌, true, false, List, [], ◌∷◌, ◌++◌, length}
-use Rattle.tape.specs.declared.pass.Passed.TheVariants.{Past}
+use Rattle.std.specs.Prelude.{ℕ, ◌≤◌, ◌≡◌, true, false, List, [], ◌∷◌, ◌++◌, length, Ok, Some}
 use Rattle.tape.specs.Walk.{trail, past_marks}
 use Rattle.rules.specs.declared.unit.Core.{Core}
 use Rattle.rules.specs.declared.event.Act.TheVariants.{Command}
@@ -57,7 +56,7 @@ OneDrive k =
 abbrev pub ComesBack : Type 0
 ComesBack =
     (w w₁ w₂ w₃ : World) (bs : List (List ℕ)) (k : ℕ) (back : List (List ℕ)) (rs₁ rs₂ rs₃ : List Turn) → AllWhole bs → MayRecord w (length bs)
-    → past_marks k (trail (tape_of w) 0) ≡ Past (drive_of w).head → Back back
+    → past_marks k (trail (tape_of w) 0) ≡ Ok (drive_of w).head → Back back
     → Ran w (recording bs) rs₁ w₁ → Ran w₁ (back ++ passing k) rs₂ w₂ → Ran w₂ (reading (length bs)) rs₃ w₃
     → AllTaken rs₁ × HandedOut w₂ w₃ bs rs₃
 
@@ -67,7 +66,7 @@ ComesBackAmongOthers =
     (d : ℕ) → d ≤ 3 → (a b c e : List ℕ) → short (fresh_world a b c e).lent ≡ true → (before es bs : List (List ℕ)) (k : ℕ) (back : List (List ℕ))
     → let w = run (fresh_world a b c e) before in
     w.core.port.selected ≡ d → AllWhole bs → MayRecord w (length bs)
-    → past_marks k (trail (tape_of w) 0) ≡ Past (drive_of w).head → Back back
+    → past_marks k (trail (tape_of w) 0) ≡ Ok (drive_of w).head → Back back
     → (rs : List Turn) (w' : World) → Ran (fresh_world a b c e) es rs w'
     → let way = before ++ (recording bs ++ (back ++ passing k)) in
     reached_in real_change d fresh_core es rs ≡ reached real_change d (fresh_world a b c e) (way ++ reading (length bs))
@@ -84,7 +83,7 @@ module _ (c : Core) (l : Lent) (event : List ℕ) (r : Turn) (l' : Lent) where
   -- Demand 2 of one event, and the rule between the operator and the desk.
   pub record ByTheRules : Type 0 where
     -- An order is illegal exactly by the first four tests, and then changes no tape, head or mode.
-    pub illegal : (k : ℕ) → event_of event ≡ Own (Command k) → (row_of r.answer).refuses ≡ false → IllegalRules c l k (stepped r l')
+    pub illegal : (k : ℕ) → event_of event ≡ Some (Own (Command k)) → (row_of r.answer).refuses ≡ false → IllegalRules c l k (stepped r l')
     -- A drive's EXCEPTION falls only by READ STATUS.
     pub exception : (i : ℕ) → i ≤ 3 → (drive_at c i).exception ≡ true → (drive_at r.core i).exception ≡ false → ByStatus c event i
     -- UDE by its rules, and BNL with it exactly where nobody knows the kind at the head.

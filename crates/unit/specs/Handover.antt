@@ -1,5 +1,5 @@
 -- Many data bytes in one call: one event after the other, up to and with the first that is not answered 0.
-use Rattle.std.specs.Prelude.{ℕ, ◌+◌, ◌≡◌, Bool, true, false, not, List, [], ◌∷◌, length, eqb}
+use Rattle.std.specs.Prelude.{ℕ, ◌+◌, ◌≡◌, Bool, true, false, not, List, [], ◌∷◌, length, eqb, None, is_some}
 use Rattle.basis.specs.Choice.{pick}
 use Rattle.basis.specs.Placed.{placed}
 use Rattle.rules.specs.declared.unit.Core.{Core}
@@ -34,7 +34,7 @@ abbrev pub went_in : Turn → Bool
 went_in r = not (row_of r.answer).refuses
 
 abbrev pub went_out : Turn → Bool
-went_out r = r.given
+went_out r = is_some r.byte
 
 -- How many went over.
 abbrev pub count_of : (Turn → Bool) → List Turn → ℕ
@@ -48,7 +48,7 @@ last_of r (t ∷ ts) = last_of t ts
 
 -- Where no event is run: answer 0, no byte, the lines as the record has them.
 abbrev pub no_event : Core → Turn
-no_event c = taken_turn false false 0 c
+no_event c = taken_turn false None c
 
 -- How many went over, the last turn, and what was lent as it is left.
 pub record Over : Type 0 where

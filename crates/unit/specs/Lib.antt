@@ -1,3 +1,4 @@
+pub mod Tapes
 pub mod Own
 pub mod Within
 pub mod Turn

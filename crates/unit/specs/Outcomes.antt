@@ -1,5 +1,5 @@
 -- Each public contract leaves one outcome: any two that it allows are equal.
-use Rattle.std.specs.Prelude.{ℕ, ◌≡◌, List}
+use Rattle.std.specs.Prelude.{ℕ, ◌≡◌, List, Option}
 use Rattle.rules.specs.declared.drive.Drive.{Drive}
 use Rattle.rules.specs.declared.phase.Phase.{Phase}
 use Rattle.rules.specs.declared.unit.Core.{Core}
@@ -24,7 +24,7 @@ pub record OneOutcome : Type 0 where
   pub step : (c : Core) (l : Lent) (event : List ℕ) (r r' : Outcome) (l' l'' : Lent)
       → Steps c l event (turn_of_outcome r) (put_staging l' r.unit.staging) → Steps c l event (turn_of_outcome r') (put_staging l'' r'.unit.staging)
       → (r ≡ r') × SameTapes l' l''
-  pub within_block : (ph : Phase) (d : Drive) (t event : List ℕ) (r r' : Inside)
+  pub within_block : (ph : Phase) (d : Drive) (t event : List ℕ) (r r' : Option Inside)
       → r ≡ inside_of ph d t event → r' ≡ inside_of ph d t event → r ≡ r'
   pub read_on : (d : Drive) (t : List ℕ) (ph : Phase) (out : List ℕ) (r r' : ℕ) (out' out'' : List ℕ)
       → ReadsOn d t ph out r out' → ReadsOn d t ph out r' out'' → (r ≡ r') × (out' ≡ out'')

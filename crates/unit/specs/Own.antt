@@ -27,7 +27,7 @@ own_answer c possible short d a = refusal_by possible short (pick (in_step_at c.
 
 abbrev pub landed_on : Core → List ℕ → Acted → OwnTurn
 landed_on c g m =
-    own_turn (taken_turn m.moved.raised m.moved.given m.moved.byte (put_drive c m.moved.port c.port.selected m.moved.drive))
+    own_turn (taken_turn m.moved.raised m.moved.byte (put_drive c m.moved.port c.port.selected m.moved.drive))
     g m.tape
 
 -- Refused, or the byte staged and then the act.

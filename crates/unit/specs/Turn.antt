@@ -3,4 +3,4 @@ use Rattle.rules.specs.declared.answer.Outcome.{Outcome}
 use Rattle.rules.specs.declared.answer.Turn.{Turn}
 
 abbrev pub turn_of_outcome : Outcome → Turn
-turn_of_outcome r = record { answer = r.answer; given = r.given; byte = r.byte; lines = r.lines; core = r.unit.core }
+turn_of_outcome r = record { answer = r.answer; byte = r.byte; lines = r.lines; core = r.unit.core }

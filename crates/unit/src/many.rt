@@ -1,15 +1,16 @@
 // Many data bytes in one call: those before the last of a block go by one copy, every other one by the step.
-ghost use Rattle.std.specs.Prelude.{◌≡◌, ◌-◌, ◌≤◌, ◌<◌, length, set, eqb};
+ghost use Rattle.std.specs.Prelude.{◌≡◌, ◌-◌, ◌≤◌, ◌<◌, length, eqb, option_to_list};
 ghost use Rattle.basis.specs.Choice.{pick};
 ghost use Rattle.basis.specs.Placed.{placed};
 ghost use Rattle.tape.specs.Record.{body_size};
-ghost use Rattle.rules.specs.Unit.{lent, one_of};
 ghost use Rattle.rules.specs.Answer.{row_of};
+ghost use Rattle.unit.specs.Tapes.{lent_on, tape_of, Same};
 ghost use Rattle.unit.specs.Handover.{GivesOver, TakesOver};
 ghost use Rattle.unit.specs.Ahead.{ahead_of, given_ahead, read_ahead, next_bytes, ReadsOn, TakesAhead, GivesSome, TakesSome};
 
 use crate::steps::step_lent;
-use answers::{GIVEN, TAKEN, done, look, moved_on, possible, short};
+use crate::tapes::Tapes;
+use answers::{GIVEN, TAKEN, done, look, moved_on, possible};
 use basis::put;
 use port::is_block;
 use rules::{Answer, Core, Drive, LAST_PLACE, Phase, Turn};
@@ -70,53 +71,23 @@ fn read_ahead(drive: Drive, tape: &[u8], phase: Phase, out: &mut [u8], at: usize
 }
 
 // The same off the tape with the drive's number, to the front of the buffer.
-pub fn read_on(
-    drive: Drive,
-    i: u8,
-    tape0: &[u8],
-    tape1: &[u8],
-    tape2: &[u8],
-    tape3: &[u8],
-    phase: Phase,
-    out: &mut [u8],
-) -> usize
-    ensures { ReadsOn drive (one_of i tape0.now tape1.now tape2.now tape3.now) phase
+pub fn read_on(drive: Drive, i: u8, tapes: &Tapes<'_>, phase: Phase, out: &mut [u8]) -> usize
+    ensures { ReadsOn drive (tape_of tapes.now i) phase
         out.old result out.new }
 {
-    match i {
-        0 => read_ahead(drive, tape0, phase, out, 0),
-        1 => read_ahead(drive, tape1, phase, out, 0),
-        2 => read_ahead(drive, tape2, phase, out, 0),
-        _ => read_ahead(drive, tape3, phase, out, 0),
-    }
+    read_ahead(drive, tapes.of(i), phase, out, 0)
 }
 
 // The same off the tape of the selected drive, from an offset on.
-fn taken_ahead(
-    core: Core,
-    calm: bool,
-    tape0: &[u8],
-    tape1: &[u8],
-    tape2: &[u8],
-    tape3: &[u8],
-    out: &mut [u8],
-    at: usize,
-) -> usize
+fn taken_ahead(core: Core, calm: bool, tapes: &Tapes<'_>, out: &mut [u8], at: usize) -> usize
     requires { at ≤ length out.old }
     ensures { TakesAhead core calm
-        (one_of core.port.selected tape0.now tape1.now tape2.now tape3.now)
+        (tape_of tapes.now core.port.selected)
         out.old at result out.new }
 {
-    let port = core.port;
-    let phase = port.phase;
     if calm {
-        let i = port.selected;
-        return match i {
-            0 => read_ahead(core.drive0, tape0, phase, out, at),
-            1 => read_ahead(core.drive1, tape1, phase, out, at),
-            2 => read_ahead(core.drive2, tape2, phase, out, at),
-            _ => read_ahead(core.drive3, tape3, phase, out, at),
-        };
+        let i = core.port.selected;
+        return read_ahead(core.drive(i), tapes.of(i), core.port.phase, out, at);
     }
     0
 }
@@ -135,22 +106,15 @@ fn answered_0(answer: Answer) -> bool
 }
 
 // Some of the bytes, by one copy or by one step.
-fn give_some(
-    core: Core,
-    staging: &mut [u8],
-    tape0: &mut [u8],
-    tape1: &mut [u8],
-    tape2: &mut [u8],
-    tape3: &mut [u8],
-    bytes: &[u8],
-) -> Handed
+fn give_some(core: Core, staging: &mut [u8], tapes: &mut Tapes<'_>, bytes: &[u8]) -> Handed
     requires { (length staging.old ≡ body_size) × (1 ≤ length bytes.now) }
-    ensures { GivesSome core
-        (lent staging.old tape0.old tape1.old tape2.old tape3.old)
+    ensures gives { GivesSome core
+        (lent_on staging.old tapes.old)
         bytes.now result
-        (lent staging.new tape0.new tape1.new tape2.new tape3.new) }
+        (lent_on staging.new tapes.new) }
+    ensures same { Same tapes.old tapes.new }
 {
-    let calm = possible(core) & short(tape0.len(), tape1.len(), tape2.len(), tape3.len());
+    let calm = possible(core) & tapes.short();
     let k = given_ahead(core, calm, bytes.len());
     if 0 < k {
         let port = core.port;
@@ -159,50 +123,33 @@ fn give_some(
         put(staging, n, &bytes[0..k]);
         return Handed {
             count: k,
-            last: moved_on(core, Phase::Taking(n + k), false, 0, false),
+            last: moved_on(core, Phase::Taking(n + k), None, false),
         };
     }
     let event = [GIVEN, bytes[0]];
-    let last = step_lent(core, staging, tape0, tape1, tape2, tape3, &event);
-    let answer = last.answer;
+    let last = step_lent(core, staging, tapes, &event);
     Handed {
-        count: one_if(!answer.refuses()),
+        count: one_if(!last.answer.refuses()),
         last,
     }
 }
 
 // Bytes given by the host one after the other, up to and with the first that is not answered 0.
-pub fn give_bytes(
-    core: Core,
-    staging: &mut [u8],
-    tape0: &mut [u8],
-    tape1: &mut [u8],
-    tape2: &mut [u8],
-    tape3: &mut [u8],
-    bytes: &[u8],
-) -> Handed
+pub fn give_bytes(core: Core, staging: &mut [u8], tapes: &mut Tapes<'_>, bytes: &[u8]) -> Handed
     requires { length staging.old ≡ body_size }
-    ensures { GivesOver core
-        (lent staging.old tape0.old tape1.old tape2.old tape3.old)
+    ensures gives { GivesOver core
+        (lent_on staging.old tapes.old)
         bytes.now result
-        (lent staging.new tape0.new tape1.new tape2.new tape3.new) }
+        (lent_on staging.new tapes.new) }
+    ensures same { Same tapes.old tapes.new }
 {
     let mut count: usize = 0;
-    let mut last = done(false, false, 0, core);
+    let mut last = done(false, None, core);
     while count < bytes.len() {
-        let some = give_some(
-            last.core,
-            staging,
-            tape0,
-            tape1,
-            tape2,
-            tape3,
-            &bytes[count..],
-        );
+        let some = give_some(last.core, staging, tapes, &bytes[count..]);
         count += some.count;
         last = some.last;
-        let answer = last.answer;
-        if !answered_0(answer) {
+        if !answered_0(last.answer) {
             return Handed { count, last };
         }
     }
@@ -210,12 +157,12 @@ pub fn give_bytes(
 }
 
 // A byte that was handed out, put into the buffer.
-fn keep(out: &mut [u8], at: usize, given: bool, byte: u8)
+fn keep(out: &mut [u8], at: usize, byte: Option<u8>)
     requires { at < length out.old }
-    ensures { out.new ≡ pick given (set out.old at byte) out.old }
+    ensures { out.new ≡ placed out.old at (option_to_list byte) }
 {
-    if given {
-        out[at] = byte;
+    if let Some(b) = byte {
+        out[at] = b;
     }
 }
 
@@ -223,65 +170,55 @@ fn keep(out: &mut [u8], at: usize, given: bool, byte: u8)
 fn take_some(
     core: Core,
     staging: &mut [u8],
-    tape0: &mut [u8],
-    tape1: &mut [u8],
-    tape2: &mut [u8],
-    tape3: &mut [u8],
+    tapes: &mut Tapes<'_>,
     out: &mut [u8],
     at: usize,
 ) -> Handed
     requires { (length staging.old ≡ body_size) × (at < length out.old) }
-    ensures { TakesSome core
-        (lent staging.old tape0.old tape1.old tape2.old tape3.old)
+    ensures takes { TakesSome core
+        (lent_on staging.old tapes.old)
         out.old at result
-        (lent staging.new tape0.new tape1.new tape2.new tape3.new)
+        (lent_on staging.new tapes.new)
         out.new }
+    ensures same { Same tapes.old tapes.new }
 {
-    let calm = possible(core) & short(tape0.len(), tape1.len(), tape2.len(), tape3.len());
-    let k = taken_ahead(core, calm, tape0, tape1, tape2, tape3, out, at);
+    let calm = possible(core) & tapes.short();
+    let k = taken_ahead(core, calm, tapes, out, at);
     if 0 < k {
         let port = core.port;
         let phase = port.phase;
         let n = phase.taken_before();
         return Handed {
             count: k,
-            last: moved_on(core, Phase::Giving(n + k), true, out[at + k - 1], true),
+            last: moved_on(core, Phase::Giving(n + k), Some(out[at + k - 1]), true),
         };
     }
     let event = [TAKEN];
-    let last = step_lent(core, staging, tape0, tape1, tape2, tape3, &event);
-    keep(out, at, last.given, last.byte);
+    let last = step_lent(core, staging, tapes, &event);
+    keep(out, at, last.byte);
     Handed {
-        count: one_if(last.given),
+        count: one_if(last.byte.is_some()),
         last,
     }
 }
 
 // Bytes taken by the host one after the other, up to and with the first that is not answered 0.
-pub fn take_bytes(
-    core: Core,
-    staging: &mut [u8],
-    tape0: &mut [u8],
-    tape1: &mut [u8],
-    tape2: &mut [u8],
-    tape3: &mut [u8],
-    out: &mut [u8],
-) -> Handed
+pub fn take_bytes(core: Core, staging: &mut [u8], tapes: &mut Tapes<'_>, out: &mut [u8]) -> Handed
     requires { length staging.old ≡ body_size }
-    ensures { TakesOver core
-        (lent staging.old tape0.old tape1.old tape2.old tape3.old)
+    ensures takes { TakesOver core
+        (lent_on staging.old tapes.old)
         out.old result
-        (lent staging.new tape0.new tape1.new tape2.new tape3.new)
+        (lent_on staging.new tapes.new)
         out.new }
+    ensures same { Same tapes.old tapes.new }
 {
     let mut count: usize = 0;
-    let mut last = done(false, false, 0, core);
+    let mut last = done(false, None, core);
     while count < out.len() {
-        let some = take_some(last.core, staging, tape0, tape1, tape2, tape3, out, count);
+        let some = take_some(last.core, staging, tapes, out, count);
         count += some.count;
         last = some.last;
-        let answer = last.answer;
-        if !answered_0(answer) {
+        if !answered_0(last.answer) {
             return Handed { count, last };
         }
     }

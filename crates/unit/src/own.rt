@@ -30,8 +30,6 @@ pub(crate) fn act_on(
     }
     stage(staging, phase, a);
     let moved = act(port, staging, drive, tape, a);
-    let after = moved.port;
-    let left = moved.drive;
-    let whole = core.put(after, port.selected, left);
-    done(moved.raised, moved.given, moved.byte, whole)
+    let whole = core.put(moved.port, port.selected, moved.drive);
+    done(moved.raised, moved.byte, whole)
 }

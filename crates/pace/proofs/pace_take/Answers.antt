@@ -1,22 +1,28 @@
 -- The call from where the run ended.
-use mathlib.Core.Path.{refl, ◌∙◌}
+use Prim.Native.Nat.{ℕ}
+use mathlib.Core.Path.{refl}
+use mathlib.Core.List.{List}
+use borrow.Author.Rules.{rules}
 use Rattle.rules.specs.declared.unit.Core.{Core}
-use Rattle.rules.specs.Unit.{Lent}
+use Rattle.rules.specs.Unit.{Lent, lent}
 use Rattle.unit.specs.declared.many.Handed.{Handed}
 use Rattle.unit.specs.Handover.{TakesOver}
+use Rattle.unit.proofs.Lending.{left_as}
+use Rattle.pace.specs.Pairs.{after}
 use Rattle.pace.proofs.Turns.{then_called}
 use Rattle.pace.proofs.pace_take.Goals as goal
-
-pub shape_of-tape0 : goal.shape_of-tape0
-shape_of-tape0 c =
-    c.take_bytes-handed.auto.tape0 ∙ c.run_core-after.auto.tape0
 
 pub returns : goal.returns
 returns c =
     let a = c.args in
+    let at = after a.tape0.now a.tape1.now a.tape2.now a.tape3.now a.pairs.now in
     record {
       handed = c.take_bytes-handed.result;
       staging = c.take_bytes-handed.new.staging;
-      is = then_called (λ (k : Core) (l : Lent) (h : Handed) (l' : Lent). TakesOver k l a.bytes.now h l' c.take_bytes-handed.new.out) _ _ _ _ _ c.run_core-after.ensures c.take_bytes-handed.ensures;
+      is =
+          left_as
+          (λ (x y z w : List ℕ). TakesOver at.core at.lent a.bytes.now c.take_bytes-handed.result (lent c.take_bytes-handed.new.staging x y z w) c.take_bytes-handed.new.out)
+          (search rules) (search rules) (search rules) (search rules)
+          (then_called (λ (k : Core) (l : Lent) (h : Handed) (l' : Lent). TakesOver k l a.bytes.now h l' c.take_bytes-handed.new.out) _ _ _ _ _ c.run_core-after.ensures.runs c.take_bytes-handed.ensures.takes);
       selected = refl;
     }

@@ -1,30 +1,26 @@
--- What is left to run from pair i comes to the whole run.
-use mathlib.Core.Path.{refl}
+-- What is left to run from pair to pair comes to the whole run.
 use native.Mathlib.Omega.{arith}
+use mathlib.Core.Path.{◌∙◌}
 use Rattle.rules.proofs.Ran.{loop_laws}
+use Rattle.unit.proofs.Lending.{same_on}
 use Rattle.pace.proofs.Turns.{pairs_cut, pairs_end}
 use Rattle.pace.proofs.run_unit.Goals as goal
 
-pub loop-i-init : goal.loop-i-init
-loop-i-init c = (loop_laws.begins _ _ _, omega arith)
+pub loop-pair-preserved : goal.loop-pair-preserved
+loop-pair-preserved c =
+    let at = c.loop-pair.invariant in
+    let steps = c.in-Some.ensures.steps in
+    let same = c.step.ensures.same in
+    record {
+      under_way =
+          loop_laws.goes_on at.under_way c.step.ensures.step (pairs_cut _ _ _ _ steps.1.0 (steps.1.1 ∙ at.by_two) c.event_of.ensures)
+          (record { size0 = same.size0; size1 = same.size1; size2 = same.size2; size3 = same.size3 });
+      by_two = steps.0 ∙ at.by_two;
+      same = same_on same at.same;
+    }
 
-pub overflow_add-i-in-loop-i : goal.overflow_add-i-in-loop-i
-overflow_add-i-in-loop-i c =
-    omega (arith, c.loop-i-test.true, c.well_formed)
-
-pub loop-i-preserved : goal.loop-i-preserved
-loop-i-preserved c =
-    let at = c.loop-i in
-    let pairs = c.args.pairs.now in
-    let size = c.kind_size.ensures in
-    let cut = pairs_cut pairs at.i _ _ c.loop-i-test.true size.0 size.1 refl in
-    let kept = c.step-outcome.auto in (
-      loop_laws.goes_on at.invariant.0 c.step-outcome.ensures cut
-          (record { size0 = kept.tape0; size1 = kept.tape1; size2 = kept.tape2; size3 = kept.tape3 }),
-      omega (arith, c.loop-i-test.true),
-    )
-
-pub returns : goal.returns
-returns c =
-    let pairs = c.args.pairs.now in
-    loop_laws.ends c.loop-i.invariant.0 (pairs_end pairs c.loop-i.i c.loop-i-test.false)
+pub returns-clause-runs : goal.returns-clause-runs
+returns-clause-runs c =
+    let at = c.loop-pair.invariant in
+    let short = c.in-None.ensures.steps.1.0 in
+    loop_laws.ends at.under_way (pairs_end _ (omega (arith, short, at.by_two)))

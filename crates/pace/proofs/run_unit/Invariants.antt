@@ -1,14 +1,14 @@
--- What is left to run from pair i comes to the whole run.
-use Prim.Native.Nat.{◌≤◌, ◌-◌}
-use lib.ListN.{length, drop}
-use Rattle.rules.specs.Unit.{lent}
+-- What is left to run from pair to pair comes to the whole run.
+use mathlib.Core.Path.{◌≡◌}
+use Rattle.std.specs.Slice.Iter.{chunks_exact_rest, chunks_exact_size}
+use Rattle.unit.specs.Tapes.{lent_on, Same}
 use Rattle.rules.specs.Ran.{UnderWay}
 use Rattle.pace.specs.Pairs.{pairs_of}
 use Rattle.pace.proofs.run_unit.Given as goal
 
-abbrev pub invariant-loop-i : goal.invariant-loop-i
-invariant-loop-i l = UnderWay l.initial.after.core (lent l.initial.after.staging l.initial.tape0 l.initial.tape1 l.initial.tape2 l.initial.tape3) (pairs_of l.pairs) l.after.core (lent l.after.staging l.tape0 l.tape1 l.tape2 l.tape3) (pairs_of (drop l.i l.pairs))
-    × (l.i ≤ length l.pairs)
-
-abbrev pub decreases-loop-i : goal.decreases-loop-i
-decreases-loop-i l = length l.pairs - l.i
+abbrev pub invariant-loop-pair : goal.invariant-loop-pair
+invariant-loop-pair l = record {
+  under_way : UnderWay l.initial.after.core (lent_on l.initial.after.staging l.initial.tapes) (pairs_of l.pairs) l.after.core (lent_on l.after.staging l.tapes) (pairs_of (chunks_exact_rest l.pair-iterator));
+  by_two : chunks_exact_size l.pair-iterator ≡ 2;
+  same : Same l.initial.tapes l.tapes;
+}

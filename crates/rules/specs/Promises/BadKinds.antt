@@ -1,7 +1,6 @@
 -- Which kind of bad record: the rules that give UDE, one by one, and BNL beside it exactly where nobody knows the kind at the head.
-use Rattle.std.specs.Prelude.{ℕ, ◌+◌, ◌≤◌, ◌<◌, ◌≡◌, Bool, true, false, List, length, get_or}
+use Rattle.std.specs.Prelude.{ℕ, ◌+◌, ◌≤◌, ◌<◌, ◌≡◌, Bool, true, false, List, length, get_or, Err, Ok, Some}
 use Rattle.tape.specs.declared.found.Why.{Why}
-use Rattle.tape.specs.declared.pass.Passed.TheVariants.{Stopped}
 use Rattle.tape.specs.Walk.{passed}
 use Rattle.tape.specs.Laws.{UnknownKind}
 use Rattle.rules.specs.declared.unit.Core.{Core}
@@ -9,7 +8,6 @@ use Rattle.rules.specs.declared.phase.Phase.TheVariants.{Rest, Giving}
 use Rattle.rules.specs.declared.event.Act.{Act}
 use Rattle.rules.specs.declared.event.Act.TheVariants.{Command, Take}
 use Rattle.rules.specs.declared.event.Event.TheVariants.{Own}
-use Rattle.rules.specs.declared.order.Fault.TheVariants.{Fine}
 use Rattle.rules.specs.Unit.{Lent, Whole, drive_at, tape_at}
 use Rattle.rules.specs.Event.{event_of}
 use Rattle.rules.specs.Answer.{row_of}
@@ -32,8 +30,8 @@ pub data BadRecord (t : List ℕ) (h : ℕ) : Type 0 where
 -- What gives UDE, where the selected drive sees s: the edge check of READ (80); READ FILE MARK (A0), where it stopped;
 -- the edge check repeated at Rest; inside a block all but a whole block; the edge check behind byte 512.
 pub data GivesUde (s : Seat) : Act → Type 0 where
-  read : decided s 128 ≡ Fine → BadRecord s.tape s.drive.head → GivesUde s (Command 128)
-  read_mark : decided s 160 ≡ Fine → (at : ℕ) (w : Why) → passed s.tape s.drive.head ≡ Stopped at w → BadRecord s.tape at
+  read : decided s 128 ≡ Ok tt → BadRecord s.tape s.drive.head → GivesUde s (Command 128)
+  read_mark : decided s 160 ≡ Ok tt → (at : ℕ) (w : Why) → passed s.tape s.drive.head ≡ Err (record { at = at; why = w }) → BadRecord s.tape at
       → GivesUde s (Command 160)
   first_byte : s.port.phase ≡ Rest → BadRecord s.tape s.drive.head → GivesUde s Take
   inside : (n : ℕ) → s.port.phase ≡ Giving n → (WholeBlock s.tape s.drive.head → ⊥) → GivesUde s Take
@@ -42,7 +40,7 @@ pub data GivesUde (s : Seat) : Act → Type 0 where
 -- An event that is taken, by such a rule.
 pub record ByUde (c : Core) (l : Lent) (event : List ℕ) (x : Stepped) : Type 0 where
   pub act : Act
-  pub event_is : event_of event ≡ Own act
+  pub event_is : event_of event ≡ Some (Own act)
   pub taken : (row_of x.turn.answer).refuses ≡ false
   pub rule : GivesUde (seat_of c l) act
 

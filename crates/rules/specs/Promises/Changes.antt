@@ -1,5 +1,5 @@
 -- Plug open: what changes the selected drive's tape, and when.
-use Rattle.std.specs.Prelude.{ℕ, ◌+◌, ◌≤◌, ◌≡◌, true, false, List, length, set, take, replicate, eqb}
+use Rattle.std.specs.Prelude.{ℕ, ◌+◌, ◌≤◌, ◌≡◌, true, false, List, length, set, take, replicate, eqb, Some}
 use Rattle.basis.specs.Choice.{pick}
 use Rattle.tape.specs.Record.{mark_size, block_size, mark_record, block_record}
 use Rattle.tape.specs.Recording.{recorded}
@@ -19,12 +19,12 @@ use Rattle.rules.specs.Promises.Plug.{tape_after}
 
 -- An order that is accepted: the command octet k, answered 0. ERASE is 22, WRITE FILE MARK 60.
 pub record Accepted (c : Core) (l : Lent) (event : List ℕ) (k : ℕ) : Type 0 where
-  pub order : event_of event ≡ Own (Command k)
+  pub order : event_of event ≡ Some (Own (Command k))
   pub answer : answer_to c l event ≡ Taken
 
 -- The line falls while the selected drive is Writing without EXCEPTION, and is answered 0.
 pub record LineFalls (c : Core) (l : Lent) (event : List ℕ) : Type 0 where
-  pub line : event_of event ≡ Own Offline
+  pub line : event_of event ≡ Some (Own Offline)
   pub up : c.port.online ≡ true
   pub writing : writes (drive_at c c.port.selected) ≡ true
   pub answer : answer_to c l event ≡ Taken
@@ -35,7 +35,7 @@ block_asks late = pick (eqb late 0) 1541 514
 
 -- The 512th byte of a block is given and taken, with room for the block or without.
 pub record LastGiven (c : Core) (l : Lent) (event : List ℕ) (b : ℕ) : Type 0 where
-  pub byte : event_of event ≡ Own (Give b)
+  pub byte : event_of event ≡ Some (Own (Give b))
   pub place : c.port.phase ≡ Taking 511
   pub taken : (row_of (answer_to c l event)).refuses ≡ false
 
@@ -80,7 +80,7 @@ RecordingHappens = (c : Core) (l : Lent) (event : List ℕ) → Whole l → Happ
 -- An order that is not accepted changes no byte of any tape, nor of the staging block: ERASE that a test stops erases nothing.
 abbrev pub OnlyAcceptedOrders : Type 0
 OnlyAcceptedOrders =
-    (c : Core) (l : Lent) (event : List ℕ) (k : ℕ) → Whole l → event_of event ≡ Own (Command k) → (answer_to c l event ≡ Taken → ⊥)
+    (c : Core) (l : Lent) (event : List ℕ) (k : ℕ) → Whole l → event_of event ≡ Some (Own (Command k)) → (answer_to c l event ≡ Taken → ⊥)
     → (step_of c l event).lent ≡ l
 
 -- After a recording every byte before the head is as it was, the record stands at the head and the data ends after it.

@@ -1,6 +1,5 @@
 -- Demand 3: what one drive gives and holds depends on what reaches it, and on nothing else.
-use Rattle.std.specs.Prelude.{ℕ, ◌≤◌, ◌≡◌, true, List, [], ◌++◌, eqb, take}
-use Rattle.std.proofs.Math.Option.{Option, none, some}
+use Rattle.std.specs.Prelude.{ℕ, ◌≤◌, ◌≡◌, true, List, [], ◌++◌, eqb, take, Option, None, Some}
 use Rattle.basis.specs.Choice.{pick}
 use Rattle.rules.specs.declared.phase.Phase.{Phase}
 use Rattle.rules.specs.declared.phase.Phase.TheVariants.{Rest, Taking, Giving, Status}
@@ -25,12 +24,12 @@ octets_in (Status k) o = o
 abbrev pub pending : ℕ → World → Option Pending
 pending d w =
     pick (eqb w.core.port.selected d)
-    (some (record {
+    (Some (record {
       phase = w.core.port.phase;
       part = take (given_before w.core.port.phase) w.lent.staging;
       octets = octets_in w.core.port.phase w.core.port.octets;
     }))
-    none
+    None
 
 -- Two worlds in which drive d ends the same:
 -- its whole record (head, both counts, latched bits, EXCEPTION, mode, cartridge, plug), its tape, and what it still has to give.

@@ -1,7 +1,6 @@
 -- Past early warning: how the late blocks that a drive allows may move, what stands behind a block, where EOM comes, and how many a WRITE takes.
-use Rattle.std.specs.Prelude.{ℕ, ◌+◌, ◌-◌, ◌≤◌, ◌<◌, ◌≡◌, Bool, true, false, not, ◌&&◌, List, [], ◌∷◌, leb, eqb, length}
+use Rattle.std.specs.Prelude.{ℕ, ◌+◌, ◌-◌, ◌≤◌, ◌<◌, ◌≡◌, Bool, true, false, not, ◌&&◌, List, [], ◌∷◌, leb, eqb, length, Err, Option, None, Some}
 use Rattle.basis.specs.Choice.{pick}
-use Rattle.tape.specs.declared.found.Found.TheVariants.{Stop}
 use Rattle.tape.specs.declared.found.Why.TheVariants.{End}
 use Rattle.tape.specs.Record.{found_at}
 use Rattle.rules.specs.declared.drive.Drive.{Drive}
@@ -10,7 +9,7 @@ use Rattle.rules.specs.declared.unit.Core.{Core}
 use Rattle.rules.specs.declared.event.Act.{Act}
 use Rattle.rules.specs.declared.event.Act.TheVariants.{Command, Give, Take, Online, Offline}
 use Rattle.rules.specs.declared.event.Event.{Event}
-use Rattle.rules.specs.declared.event.Event.TheVariants.{NoEvent, Reset, Named, Own}
+use Rattle.rules.specs.declared.event.Event.TheVariants.{Reset, Named, Own}
 use Rattle.rules.specs.declared.answer.Answer.{Answer}
 use Rattle.rules.specs.declared.answer.Answer.TheVariants.{Taken, Raised}
 use Rattle.rules.specs.Unit.{Lent, Whole, drive_at, tape_at}
@@ -49,7 +48,7 @@ LateMoves =
 pub record Behind (d : Drive) (t : List ℕ) (h : ℕ) : Type 0 where
   pub head : d.head ≡ h + 513
   pub room : d.head + 1 ≤ length t
-  pub end : found_at t d.head ≡ Stop End
+  pub end : found_at t d.head ≡ Err End
   pub mark : fits7 d (length t) 96 ≡ false
 
 abbrev pub ByteBehind : Type 0
@@ -75,11 +74,11 @@ EomExactly =
 -- ---- Of a run
 
 -- An act of the host that is such a one: a byte given, or WRITE ordered.
-abbrev pub is_act : (Act → Bool) → Event → Bool
-is_act f NoEvent = false
-is_act f Reset = false
-is_act f (Named i w) = false
-is_act f (Own a) = f a
+abbrev pub is_act : (Act → Bool) → Option Event → Bool
+is_act f None = false
+is_act f (Some Reset) = false
+is_act f (Some (Named i w)) = false
+is_act f (Some (Own a)) = f a
 
 abbrev pub is_give : Act → Bool
 is_give (Command k) = false

@@ -1,5 +1,5 @@
 -- Demand 2: an order is stopped by the first test that fits, it is illegal exactly by the first four, and then changes no tape.
-use Rattle.std.specs.Prelude.{ℕ, ◌+◌, ◌≤◌, ◌≡◌, Bool, true, false, not, ◌&&◌, ◌||◌, List, [], ◌∷◌, ◌++◌, leb, eqb, length}
+use Rattle.std.specs.Prelude.{ℕ, ◌+◌, ◌≤◌, ◌≡◌, Bool, true, false, not, ◌&&◌, ◌||◌, List, [], ◌∷◌, ◌++◌, leb, eqb, length, Result, Ok, Err, Some}
 use Rattle.basis.specs.Choice.{pick}
 use Rattle.rules.specs.declared.drive.Drive.{Drive}
 use Rattle.rules.specs.declared.drive.Mode.{Mode}
@@ -9,7 +9,7 @@ use Rattle.rules.specs.declared.event.Act.TheVariants.{Command}
 use Rattle.rules.specs.declared.event.Event.TheVariants.{Own}
 use Rattle.rules.specs.declared.order.Order.TheVariants.{ReadStatus}
 use Rattle.rules.specs.declared.order.Fault.{Fault}
-use Rattle.rules.specs.declared.order.Fault.TheVariants.{Fine, Illegal, Empty, Plugged, Full}
+use Rattle.rules.specs.declared.order.Fault.TheVariants.{Illegal, Empty, Plugged, Full}
 use Rattle.rules.specs.declared.answer.Answer.TheVariants.{Raised}
 use Rattle.rules.specs.Unit.{Lent, Whole, drive_at}
 use Rattle.rules.specs.Event.{event_of}
@@ -71,19 +71,19 @@ fits7 d size k = among k (64 ∷ 96 ∷ []) && not (leb (d.head + room_asked k) 
 abbrev pub first_four : Bool → Drive → ℕ → Bool
 first_four online d k = fits1 d k || (fits2 k || (fits3 d.mode k || fits4 online k))
 
-abbrev pub decided : Seat → ℕ → Fault
+abbrev pub decided : Seat → ℕ → Result (Unit {0}) Fault
 decided s k =
-    pick (first_four s.port.online s.drive k) Illegal
-    (pick (fits5 s.drive k) Empty
-    (pick (fits6 s.drive k) Plugged
-    (pick (fits7 s.drive (length s.tape) k) Full Fine)))
+    pick (first_four s.port.online s.drive k) (Err Illegal)
+    (pick (fits5 s.drive k) (Err Empty)
+    (pick (fits6 s.drive k) (Err Plugged)
+    (pick (fits7 s.drive (length s.tape) k) (Err Full) (Ok tt))))
 
 abbrev pub FirstTestDecides : Type 0
 FirstTestDecides = (s : Seat) (k : ℕ) → fault_of s (order_of k) ≡ decided s k
 
 -- READ STATUS passes all seven tests in every record.
 abbrev pub StatusPasses : Type 0
-StatusPasses = (s : Seat) → fault_of s ReadStatus ≡ Fine
+StatusPasses = (s : Seat) → fault_of s (Some ReadStatus) ≡ Ok tt
 
 -- ---- Of one event: an order that is taken up, of any content, in any record
 
@@ -105,5 +105,5 @@ pub record IllegalRules (c : Core) (l : Lent) (k : ℕ) (s : Stepped) : Type 0 w
 
 abbrev pub IllegalExactly : Type 0
 IllegalExactly =
-    (c : Core) (l : Lent) (event : List ℕ) (k : ℕ) → Whole l → event_of event ≡ Own (Command k)
+    (c : Core) (l : Lent) (event : List ℕ) (k : ℕ) → Whole l → event_of event ≡ Some (Own (Command k))
     → (row_of (step_of c l event).turn.answer).refuses ≡ false → IllegalRules c l k (step_of c l event)

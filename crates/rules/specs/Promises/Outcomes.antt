@@ -4,8 +4,10 @@ use Rattle.rules.specs.declared.answer.Answer.{Answer}
 use Rattle.rules.specs.declared.answer.Turn.{Turn}
 use Rattle.rules.specs.declared.drive.Bit.{Bit}
 use Rattle.rules.specs.declared.drive.Drive.{Drive}
+use Rattle.rules.specs.declared.drive.Errors.{Errors}
 use Rattle.rules.specs.declared.drive.Latched.{Latched}
 use Rattle.rules.specs.declared.drive.Mode.{Mode}
+use Rattle.rules.specs.declared.drive.Underruns.{Underruns}
 use Rattle.rules.specs.declared.phase.Phase.{Phase}
 use Rattle.rules.specs.declared.unit.Core.{Core}
 use Rattle.rules.specs.declared.unit.Port.{Port}
@@ -45,6 +47,8 @@ pub record OneOutcome : Type 0 where
   pub unload : (d r r' : Drive) → r ≡ pulled d → r' ≡ pulled d → r ≡ r'
   pub count_error : (d r r' : Drive) → r ≡ error_counted d → r' ≡ error_counted d → r ≡ r'
   pub count_underrun : (d r r' : Drive) → r ≡ underrun_counted d → r' ≡ underrun_counted d → r ≡ r'
+  pub number_of_errors : (n : Errors) (r r' : ℕ) → r ≡ n.0 → r' ≡ n.0 → r ≡ r'
+  pub number_of_underruns : (n : Underruns) (r r' : ℕ) → r ≡ n.0 → r' ≡ n.0 → r ≡ r'
   pub writes : (d : Drive) (r r' : Bool) → r ≡ writes d → r' ≡ writes d → r ≡ r'
   pub reads : (d : Drive) (r r' : Bool) → r ≡ reads d → r' ≡ reads d → r ≡ r'
   pub at_rest : (ph : Phase) (r r' : Bool) → r ≡ at_rest ph → r' ≡ at_rest ph → r ≡ r'

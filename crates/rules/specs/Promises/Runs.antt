@@ -1,5 +1,5 @@
 -- Runs to check: each from a fresh unit with a tape in drive 0.
-use Rattle.std.specs.Prelude.{ℕ, zero, suc, ◌≡◌, List, [], ◌∷◌, ◌++◌, map, take, drop, replicate}
+use Rattle.std.specs.Prelude.{ℕ, zero, suc, ◌≡◌, List, [], ◌∷◌, ◌++◌, map, Option, Some, take, drop, replicate}
 use Rattle.rules.specs.declared.answer.Turn.{Turn}
 use Rattle.rules.specs.Answer.{row_of}
 use Rattle.rules.specs.Promises.Events
@@ -85,7 +85,7 @@ starred =
 
 -- What the run of a case shows: the first two bytes that the report hands out, and the tape.
 pub record Shown : Type 0 where
-  pub octets : List ℕ
+  pub octets : List (Option ℕ)
   pub tape : List ℕ
 
 abbrev pub shown_by : Case → Shown
@@ -94,7 +94,7 @@ shown_by c =
     record { octets = take 2 (drop 1 (map (λ (r : Turn). r.byte) (turns w report))); tape = (run w report).lent.tape0 }
 
 abbrev pub wanted : Case → Shown
-wanted c = record { octets = c.octets; tape = c.after }
+wanted c = record { octets = map Some c.octets; tape = c.after }
 
 -- All of them, as one list under one statement.
 abbrev pub StarredRunsHold : Type 0

@@ -1,5 +1,5 @@
 -- Demand 2: what raises a drive's EXCEPTION, and what alone takes it, the latched bits and the counts away.
-use Rattle.std.specs.Prelude.{ℕ, ◌+◌, ◌*◌, ◌≤◌, ◌≡◌, true, false, List, get_or}
+use Rattle.std.specs.Prelude.{ℕ, ◌+◌, ◌*◌, ◌≤◌, ◌≡◌, true, false, List, get_or, Some}
 use Rattle.rules.specs.declared.drive.Drive.{Drive}
 use Rattle.rules.specs.declared.drive.Latched.{Latched}
 use Rattle.rules.specs.declared.unit.Core.{Core}
@@ -19,7 +19,7 @@ drive_after c l event i = drive_at (step_of c l event).turn.core i
 
 -- READ STATUS (C0) to drive i: that drive selected, the unit at Rest.
 pub record ByStatus (c : Core) (event : List ℕ) (i : ℕ) : Type 0 where
-  pub event_is : event_of event ≡ Own (Command 192)
+  pub event_is : event_of event ≡ Some (Own (Command 192))
   pub selected : c.port.selected ≡ i
   pub rest : at_rest c.port.phase ≡ true
 
@@ -63,7 +63,7 @@ pub record ReportStays (d e : Drive) : Type 0 where
 abbrev pub ClearedOnly : Type 0
 ClearedOnly =
     (c : Core) (l : Lent) (event : List ℕ) (i : ℕ) → i ≤ 3 → Whole l
-    → (event_of event ≡ Reset → ⊥) → (ByStatus c event i → ⊥) → ReportStays (drive_at c i) (drive_after c l event i)
+    → (event_of event ≡ Some Reset → ⊥) → (ByStatus c event i → ⊥) → ReportStays (drive_at c i) (drive_after c l event i)
 
 -- A report tells both counters as numbers, each by 256 times its high octet and its low one: octets 2 and 3 the errors, 4 and 5 the underruns.
 pub record CountsTold (d : Drive) (octets : List ℕ) : Type 0 where

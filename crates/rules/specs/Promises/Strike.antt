@@ -1,8 +1,8 @@
 -- The strike comes back: what a rig gave is what it is handed out, byte for byte, and what was recorded before is handed out as ever.
-use Rattle.std.specs.Prelude.{ℕ, zero, suc, ◌+◌, ◌*◌, ◌≤◌, ◌≡◌, true, false, List, [], ◌∷◌, ◌++◌, length}
+use Rattle.std.specs.Prelude.{ℕ, zero, suc, ◌+◌, ◌*◌, ◌≤◌, ◌≡◌, true, false, List, [], ◌∷◌, ◌++◌, length, Ok, None, Some}
 use Rattle.std.proofs.Math.Option.{none, some}
-use Rattle.tape.specs.declared.found.Found.TheVariants.{Block}
-use Rattle.tape.specs.declared.pass.Passed.TheVariants.{Past}
+use Rattle.tape.specs.declared.found.Kind.TheVariants.{Block}
+use Rattle.std.specs.List.{cons_option}
 use Rattle.tape.specs.Record.{body_size, mark_record, block_record, found_at}
 use Rattle.tape.specs.Recording.{recorded}
 use Rattle.tape.specs.Walk.{trail, past_marks}
@@ -17,7 +17,7 @@ use Rattle.rules.specs.Drive.{set_head, stopping, writes, reads}
 use Rattle.rules.specs.Unit.{Whole, drive_at, tape_at}
 use Rattle.rules.specs.Refusal.{possible, short}
 use Rattle.rules.specs.Run.{World, after, run, turns, given_each, taken_times, fresh_world}
-use Rattle.rules.specs.Reach.{real_change, Gave, only_if, reached, given}
+use Rattle.rules.specs.Reach.{real_change, Gave, reached, given}
 use Rattle.rules.specs.Promises.Changes.{Accepted, block_asks}
 use Rattle.rules.specs.Promises.Events.{joined}
 use Rattle.rules.specs.Promises.Runs.{command, report, online, offline}
@@ -64,7 +64,7 @@ strike (b ∷ bs) = block_record b ++ strike bs
 -- The bytes that turns handed out.
 abbrev pub handed_out : List Turn → List ℕ
 handed_out [] = []
-handed_out (r ∷ rs) = only_if r.given r.byte (handed_out rs)
+handed_out (r ∷ rs) = cons_option r.byte (handed_out rs)
 
 -- Every event answered 0; and every one but the last, which is answered 1.
 abbrev pub AllTaken : List Turn → Type 0
@@ -103,7 +103,7 @@ BlockGiven =
 -- A whole block at the head is handed out as it stands, byte for byte.
 abbrev pub BlockHanded : Type 0
 BlockHanded =
-    (w : World) → Works w → w.core.port.phase ≡ Rest → reads (drive_of w) ≡ true → found_at (tape_of w) (drive_of w).head ≡ Block
+    (w : World) → Works w → w.core.port.phase ≡ Rest → reads (drive_of w) ≡ true → found_at (tape_of w) (drive_of w).head ≡ Ok Block
     → handed_out (turns w (taken_times body_size)) ≡ body_at (tape_of w) (drive_of w).head
 
 -- Bytes before the head stand after every event but an accepted ERASE.
@@ -146,7 +146,7 @@ pub record Arrives (w w' : World) (h : ℕ) : Type 0 where
 
 abbrev pub WayBack : Type 0
 WayBack =
-    (w : World) (k h : ℕ) (back : List (List ℕ)) → Ready w → Back back → past_marks k (trail (tape_of w) 0) ≡ Past h
+    (w : World) (k h : ℕ) (back : List (List ℕ)) → Ready w → Back back → past_marks k (trail (tape_of w) 0) ≡ Ok h
     → Arrives w (run w (back ++ passing k)) h
 
 -- ---- The strike comes back
@@ -155,7 +155,7 @@ WayBack =
 abbrev pub StrikeComesBack : Type 0
 StrikeComesBack =
     (w : World) (bs : List (List ℕ)) (k : ℕ) (back : List (List ℕ)) → AllWhole bs → MayRecord w (length bs)
-    → past_marks k (trail (tape_of w) 0) ≡ Past (drive_of w).head → Back back
+    → past_marks k (trail (tape_of w) 0) ≡ Ok (drive_of w).head → Back back
     → let w₁ = run w (recording bs) in
     let w₂ = run w₁ (back ++ passing k) in
     AllTaken (turns w (recording bs)) × HandedOut w₂ (run w₂ (reading (length bs))) bs (turns w₂ (reading (length bs)))
@@ -170,7 +170,7 @@ FirstStrikeStays =
 abbrev pub FirstStrikeComesBack : Type 0
 FirstStrikeComesBack =
     (w : World) (bs cs : List (List ℕ)) (k : ℕ) (back : List (List ℕ)) → AllWhole bs → AllWhole cs → MayRecord w (length bs)
-    → MayRecord (run w (recording bs)) (length cs) → past_marks k (trail (tape_of w) 0) ≡ Past (drive_of w).head → Back back
+    → MayRecord (run w (recording bs)) (length cs) → past_marks k (trail (tape_of w) 0) ≡ Ok (drive_of w).head → Back back
     → let w₁ = run (run w (recording bs)) (recording cs) in
     let w₂ = run w₁ (back ++ passing k) in
     HandedOut w₂ (run w₂ (reading (length bs))) bs (turns w₂ (reading (length bs)))
@@ -179,7 +179,7 @@ FirstStrikeComesBack =
 
 -- The bytes that drive d handed out at the events that reached it.
 abbrev pub byte_of : Gave → List ℕ → List ℕ
-byte_of g l = elim g.shown [ none ↦ l | some s ↦ only_if s.given s.byte l ]
+byte_of g l = elim g.shown [ None ↦ l | Some s ↦ cons_option s.byte l ]
 
 abbrev pub bytes_of : List Gave → List ℕ
 bytes_of [] = []
@@ -195,7 +195,7 @@ StrikeAmongOthers =
     (d : ℕ) → d ≤ 3 → (a b c e : List ℕ) → short (fresh_world a b c e).lent ≡ true → (before es bs : List (List ℕ)) (k : ℕ) (back : List (List ℕ))
     → let w = run (fresh_world a b c e) before in
     w.core.port.selected ≡ d → AllWhole bs → MayRecord w (length bs)
-    → past_marks k (trail (tape_of w) 0) ≡ Past (drive_of w).head → Back back
+    → past_marks k (trail (tape_of w) 0) ≡ Ok (drive_of w).head → Back back
     → let way = before ++ (recording bs ++ (back ++ passing k)) in
     reached real_change d (fresh_world a b c e) es ≡ reached real_change d (fresh_world a b c e) (way ++ reading (length bs))
     → handed_by d (fresh_world a b c e) es ≡ handed_by d (fresh_world a b c e) way ++ joined bs

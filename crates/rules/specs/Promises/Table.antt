@@ -1,10 +1,10 @@
 -- Demand 1: whatever the bytes, the record and the tapes, there is one answer, and the table of document 01 says which.
-use Rattle.std.specs.Prelude.{ℕ, ◌≤◌, ◌≡◌, ◌↔◌, Bool, true, false, not, List}
+use Rattle.std.specs.Prelude.{ℕ, ◌≤◌, ◌≡◌, ◌↔◌, Bool, true, false, not, List, Option, None, Some}
 use Rattle.rules.specs.declared.unit.Core.{Core}
 use Rattle.rules.specs.declared.event.Event.{Event}
 use Rattle.rules.specs.declared.event.What.{What}
 use Rattle.rules.specs.declared.event.What.TheVariants.{In, Out, Error, Underrun}
-use Rattle.rules.specs.declared.event.Event.TheVariants.{NoEvent, Reset, Named, Own}
+use Rattle.rules.specs.declared.event.Event.TheVariants.{Reset, Named, Own}
 use Rattle.rules.specs.declared.answer.Answer.{Answer}
 use Rattle.rules.specs.declared.answer.Answer.TheVariants.{Taken, Raised, OutOfStep, WrongSlot, Malformed, Impossible, TooLong}
 use Rattle.rules.specs.Unit.{Lent, drive_at}
@@ -22,18 +22,16 @@ abbrev pub too_long : Lent → Bool
 too_long l = not (short l)
 
 -- 4: the bytes are no event.
-abbrev pub malformed : Event → Bool
-malformed NoEvent = true
-malformed Reset = false
-malformed (Named i w) = false
-malformed (Own a) = false
+abbrev pub malformed : Option Event → Bool
+malformed None = true
+malformed (Some e) = false
 
 -- 2: an act of the host that is out of step.
-abbrev pub out_of_step : Core → Event → Bool
-out_of_step c NoEvent = false
-out_of_step c Reset = false
-out_of_step c (Named i w) = false
-out_of_step c (Own a) = not (in_step_at c.port.phase (drive_at c c.port.selected) a)
+abbrev pub out_of_step : Core → Option Event → Bool
+out_of_step c None = false
+out_of_step c (Some Reset) = false
+out_of_step c (Some (Named i w)) = false
+out_of_step c (Some (Own a)) = not (in_step_at c.port.phase (drive_at c c.port.selected) a)
 
 -- 3: the slot is not as the event wants it: empty for a cartridge that comes in, full for all else.
 abbrev pub slot_fits : Bool → What → Bool
@@ -42,18 +40,18 @@ slot_fits loaded Out = loaded
 slot_fits loaded Error = loaded
 slot_fits loaded Underrun = loaded
 
-abbrev pub wrong_slot : Core → Event → Bool
-wrong_slot c NoEvent = false
-wrong_slot c Reset = false
-wrong_slot c (Named i w) = not (slot_fits (drive_at c i).loaded w)
-wrong_slot c (Own a) = false
+abbrev pub wrong_slot : Core → Option Event → Bool
+wrong_slot c None = false
+wrong_slot c (Some Reset) = false
+wrong_slot c (Some (Named i w)) = not (slot_fits (drive_at c i).loaded w)
+wrong_slot c (Some (Own a)) = false
 
 -- 1: a rule raises EXCEPTION: RESET's, that of a cartridge pulled, and that of an act where it says so.
-abbrev pub raises : Core → Lent → Event → Bool
-raises c l NoEvent = false
-raises c l Reset = true
-raises c l (Named i w) = is_out w
-raises c l (Own a) = (act (staged_in c a l).staging (seat_of c (staged_in c a l)) a).moved.raised
+abbrev pub raises : Core → Lent → Option Event → Bool
+raises c l None = false
+raises c l (Some Reset) = true
+raises c l (Some (Named i w)) = is_out w
+raises c l (Some (Own a)) = (act (staged_in c a l).staging (seat_of c (staged_in c a l)) a).moved.raised
 
 abbrev pub answer_to : Core → Lent → List ℕ → Answer
 answer_to c l event = (step_of c l event).turn.answer

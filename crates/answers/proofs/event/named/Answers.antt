@@ -1,11 +1,14 @@
-use Rattle.basis.specs.Tests.{tests}
+use mathlib.Core.Path.{◌≡◌, refl, ◌∙◌}
+use mathlib.Core.Bool.{Bool, true, false}
+use Rattle.std.specs.Prelude.{None, Some}
+use Rattle.std.specs.Bool.{then_some}
 use Rattle.basis.specs.Choice.{pick}
 use Rattle.answers.proofs.event.named.Goals as goal
 
-pub returns-then-body-le-LAST_DRIVE : goal.returns-then-body-le-LAST_DRIVE
+chosen : {A : Type 0} (b : Bool) (x : A) → then_some b x ≡ pick b (Some x) None
 unfolding pick
-returns-then-body-le-LAST_DRIVE c = search tests
+chosen true x = refl
+chosen false x = refl
 
-pub returns-else-body-le-LAST_DRIVE : goal.returns-else-body-le-LAST_DRIVE
-unfolding pick
-returns-else-body-le-LAST_DRIVE c = search tests
+pub returns : goal.returns
+returns c = c.then_some.ensures ∙ chosen _ _

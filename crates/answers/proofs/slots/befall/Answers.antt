@@ -10,8 +10,8 @@ returns-in-Out c = rw (c.cartridge_out.ensures, c.in-Out.is)
 
 pub returns-in-Error : goal.returns-in-Error
 unfolding pick
-returns-in-Error c = rw (c.count_errors.ensures, c.in-Error.is)
+returns-in-Error c = rw (c.count_in.ensures, c.in-Error.is)
 
 pub returns-in-Underrun : goal.returns-in-Underrun
 unfolding pick
-returns-in-Underrun c = rw (c.count_underruns.ensures, c.in-Underrun.is)
+returns-in-Underrun c = rw (c.count_in-in-Underrun.ensures, c.in-Underrun.is)

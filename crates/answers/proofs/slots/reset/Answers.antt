@@ -1,6 +1,8 @@
 -- Refused by 5 or 6 alone, else every drive reset.
-use mathlib.Core.Bool.{true, false}
+use mathlib.Core.Bool.{true}
+use Rattle.std.specs.Prelude.{None}
 use mathlib.Core.Path.{ap, ◌∙◌}
+use Rattle.std.specs.Prelude.{Some}
 use Rattle.basis.specs.Tests.{told}
 use Rattle.rules.specs.declared.event.Event.TheVariants.{Reset}
 use Rattle.rules.specs.declared.answer.Turn.{Turn}
@@ -14,13 +16,13 @@ returns-then-refuses c =
     let a = c.args in
     λ l.
     ap (λ (x : Turn). stepped x l) c.refuse.ensures
-    ∙ refused_by a.core a.possible a.short Reset _ c.refusal_by-answer.ensures
+    ∙ refused_by a.core a.possible a.short (Some Reset) _ c.refusal_by-answer.ensures
     (told c.refuses.ensures c.if-refuses.true) l
 
 pub returns : goal.returns
 returns c =
     let a = c.args in
     λ l.
-    ap (λ (x : Turn). stepped x l) (c.done.ensures ∙ ap (λ (x : Core). taken_turn true false 0 x) c.reset.ensures)
-    ∙ taken_by a.core a.possible a.short Reset _ c.refusal_by-answer.ensures
+    ap (λ (x : Turn). stepped x l) (c.done.ensures ∙ ap (λ (x : Core). taken_turn true None x) c.reset.ensures)
+    ∙ taken_by a.core a.possible a.short (Some Reset) _ c.refusal_by-answer.ensures
     (told c.refuses.ensures c.if-refuses.false) l

@@ -4,4 +4,4 @@ use Rattle.answers.proofs.three_lines.lines.Goals as goal
 pub returns : goal.returns
 unfolding lines_of
 returns c =
-    rw (c.reads-reading.ensures, c.is_status-status.ensures, c.rest_or_status-rests.ensures, c.drive-drive.ensures)
+    rw (c.reads.ensures, c.is_status.ensures, c.rest_or_status.ensures, c.drive-drive.ensures)

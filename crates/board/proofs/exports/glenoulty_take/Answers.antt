@@ -1,7 +1,15 @@
 -- A record is served; where there is none all is as found.
-use Rattle.board.specs.Serve.{Takes}
+use Rattle.board.specs.Serve.{Takes, ServedMany, tapes}
+use Rattle.rules.specs.declared.unit.Core.{Core}
+use Rattle.rules.specs.Unit.{Lent}
+use Rattle.unit.specs.declared.many.Handed.{Handed}
+use Rattle.unit.specs.Handover.{TakesOver}
+use Prim.Native.Nat.{ℕ}
 use mathlib.Core.Path.{refl}
+use mathlib.Core.List.{List}
+use borrow.Author.Rules.{rules}
 use Rattle.basis.specs.Tests.{told}
+use Rattle.unit.proofs.Lending.{left_as}
 use Rattle.board.proofs.exports.glenoulty_take.Goals as goal
 
 pub serve_taken-requires : goal.serve_taken-requires
@@ -9,7 +17,12 @@ serve_taken-requires c = told c.is_record.ensures c.if-is_record.true
 
 pub returns-then-is_record : goal.returns-then-is_record
 returns-then-is_record c =
-    Takes.of_record (told c.is_record.ensures c.if-is_record.true) c.serve_taken.ensures
+    let a = c.args in
+    let served =
+    λ (x y z w : List ℕ). ServedMany (λ (k : Core) (l : Lent) (h : Handed) (l' : Lent). TakesOver k l a.bytes.now h l' c.serve_taken.new.bytes) a.buffer.now (tapes a.tape0.now a.tape1.now a.tape2.now a.tape3.now)
+    c.serve_taken.result c.serve_taken.new.res c.serve_taken.new.buffer (tapes x y z w) in
+    Takes.of_record (told c.is_record.ensures c.if-is_record.true)
+    (left_as served (search rules) (search rules) (search rules) (search rules) c.serve_taken.ensures.served)
 
 pub returns : goal.returns
 returns c =

@@ -7,7 +7,7 @@ use lib.ListN.{length, take, length-take, length-drop}
 use Rattle.rules.specs.declared.phase.Phase.TheVariants.{Taking}
 use Rattle.rules.specs.Phase.{given_before}
 use Rattle.layout.specs.Read.{core_of, staging_of}
-use Rattle.board.specs.Serve.{tapes}
+use Rattle.board.specs.Serve.{tapes_of}
 use Rattle.basis.specs.Placed.{placed}
 use Rattle.layout.specs.Written.{phase_at, phase_bytes}
 use Rattle.layout.proofs.Form.{record_long}
@@ -56,8 +56,8 @@ serve_step-requires c =
 pub went_in-requires : goal.went_in-requires
 went_in-requires c = omega (arith, (all_but_one _ _ _ c.requires.1.1.1.1).place)
 
-pub returns : goal.returns
-returns c =
+pub returns-clause-served : goal.returns-clause-served
+returns-clause-served c =
     let a = c.args in
     let l = a.buffer.now in
     let pre = c.requires in
@@ -71,8 +71,8 @@ returns c =
     let put : g ≡ placed (staging_of l) n (take k a.bytes.now) = rw (lent_part l g size, before, part) at c.put.ensures in
     let back = given_back l g size ∙ ap (λ (x : List ℕ). take 146 l ++ x) put in
     let is = rw (before) at c.write_phase.ensures ∙ ap (λ (x : List ℕ). placed x phase_at (phase_bytes (Taking (n + k)))) back in
-    let sizes = c.serve_step.auto in
-    given_served l (tapes a.tape0.now a.tape1.now a.tape2.now a.tape3.now) _ _ _ _ (λ i. search rules) pre.0
-    pre.1.0 (record { size0 = sizes.tape0; size1 = sizes.tape1; size2 = sizes.tape2; size3 = sizes.tape3 }) a.bytes.now _ pre.1.1.0
-    (rw (at) at pre.1.1.1.1) (sym (ap length put) ∙ (c.put.auto.out ∙ part_long l g size)) is c.serve_step.ensures
+    let sizes = c.serve_step.ensures.same in
+    given_served l (tapes_of a.tapes.now) _ _ _ _ (λ i. search rules) pre.0
+    pre.1.0 (record { size0 = sizes.size0; size1 = sizes.size1; size2 = sizes.size2; size3 = sizes.size3 }) a.bytes.now _ pre.1.1.0
+    (rw (at) at pre.1.1.1.1) (sym (ap length put) ∙ (c.put.auto.out ∙ part_long l g size)) is c.serve_step.ensures.served
     c.went_in.ensures

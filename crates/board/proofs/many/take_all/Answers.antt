@@ -18,8 +18,8 @@ write_turn-requires c =
     let size = record_long l c.requires in
     back_long l g size (c.take_bytes-handed.auto.staging ∙ part_long l g size)
 
-pub returns : goal.returns
-returns c =
+pub returns-clause-served : goal.returns-clause-served
+returns-clause-served c =
     let l = c.args.buffer.now in
     let g = c.take_bytes-handed.new.staging in
     let size = record_long l c.requires in
@@ -28,7 +28,7 @@ returns c =
     record {
       handed = c.take_bytes-handed.result;
       staging = g;
-      is = rw (c.core_of-core.ensures, lent_part l g size) at c.take_bytes-handed.ensures;
+      is = rw (c.core_of-core.ensures, lent_part l g size) at c.take_bytes-handed.ensures.takes;
       count = refl;
       result = wrote.value;
       left = rw (staging) at wrote.buffer_after;

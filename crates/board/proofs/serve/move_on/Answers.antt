@@ -17,6 +17,6 @@ returns c =
     let back = given_back l g c.requires ∙ ap (λ (x : List ℕ). take 146 l ++ x) put in
     record {
       value = c.byte_bytes.ensures;
-      buffer_after = c.write_phase.ensures ∙ ap (λ (x : List ℕ). placed x phase_at (phase_bytes a.byte.phase)) back;
+      buffer_after = c.write_phase.ensures ∙ ap (λ (x : List ℕ). placed x phase_at (phase_bytes a.inside.phase)) back;
       buffer_len = sym (ap length put) ∙ (c.stage.auto.staging ∙ part_long l g c.requires);
     }

@@ -1,8 +1,8 @@
 -- A byte within a block staged and its phase written where they stand; else the unit's step.
-use mathlib.Core.Path.{refl}
+use mathlib.Core.Path.{refl, sym, ◌∙◌}
 use Rattle.rules.specs.Refusal.{short}
 use Rattle.layout.proofs.Form.{record_long}
-use Rattle.board.specs.Serve.{tapes}
+use Rattle.board.specs.Serve.{tapes_of}
 use Rattle.board.proofs.InPlace.{byte_served}
 use borrow.Author.Rules.{rules}
 use Rattle.board.proofs.serve.serve.Goals as goal
@@ -19,15 +19,15 @@ possible_in-requires c = record_long c.args.buffer.now c.requires
 pub move_on-requires : goal.move_on-requires
 move_on-requires c = record_long c.args.buffer.now c.requires
 
-pub returns-then-possible_in-short : goal.returns-then-possible_in-short
+pub returns-then-possible_in-short-clause-served : goal.returns-then-possible_in-short-clause-served
 unfolding short
-returns-then-possible_in-short c =
+returns-then-possible_in-short-clause-served c =
     let moved = c.move_on.ensures in
     let a = c.args in
     let port = c.port_in-port.ensures in
     let calm = rw (c.possible_in.ensures, c.short.ensures) at c.if-possible_in-short.true in
-    byte_served a.buffer.now (tapes a.tape0.now a.tape1.now a.tape2.now a.tape3.now) a.event.now _ _ _ _
-    (λ i. search rules) c.requires calm (rw (c.drive_in-drive.ensures, port) at c.within_block-byte.ensures) c.if-byte.true refl
+    byte_served a.buffer.now (tapes_of a.tapes.now) a.event.now _ _ _ _
+    (λ i. search rules) c.requires calm (rw (c.drive_in-drive.ensures, port) at (sym c.within_block.ensures ∙ c.in-Some.is)) refl
     (rw (port) at moved.buffer_len) moved.value (rw (port) at moved.buffer_after)
 
 pub serve_step-requires : goal.serve_step-requires

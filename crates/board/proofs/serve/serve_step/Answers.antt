@@ -18,8 +18,8 @@ write_turn-requires c =
     let size = record_long l c.requires in
     back_long l g size (c.step_lent-turn.auto.staging ∙ part_long l g size)
 
-pub returns : goal.returns
-returns c =
+pub returns-clause-served : goal.returns-clause-served
+returns-clause-served c =
     let l = c.args.buffer.now in
     let g = c.step_lent-turn.new.staging in
     let size = record_long l c.requires in
@@ -28,7 +28,7 @@ returns c =
     record {
       turn = c.step_lent-turn.result;
       staging = g;
-      steps = rw (c.core_of-core.ensures, lent_part l g size) at c.step_lent-turn.ensures;
+      steps = rw (c.core_of-core.ensures, lent_part l g size) at c.step_lent-turn.ensures.step;
       result = wrote.value;
       left = rw (staging) at wrote.buffer_after;
       sized = rw (staging) at wrote.sized;

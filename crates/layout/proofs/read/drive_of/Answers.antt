@@ -1,16 +1,16 @@
 -- Each field of a drive is read where the layout has it.
 use Rattle.layout.specs.Read.{drive_of}
+use Rattle.layout.proofs.Numbers.{two_read, eight_read}
 use Rattle.layout.proofs.read.drive_of.Goals as goal
 
 pub returns : goal.returns
 unfolding drive_of
 returns c =
+    let p = c.args.p.now in
     rw (
-      c.of_two-2.ensures,
-      c.of_two.ensures,
       c.latched_of-latched.ensures,
       c.mode_of-mode.ensures,
-      c.of_eight-head.ensures,
-      c.of_four-2.ensures,
-      c.of_four.ensures,
+      two_read p _ 14 _ c.part-3.ensures c.from_le_bytes-underruns.ensures,
+      two_read p _ 12 _ c.part-2.ensures c.from_le_bytes-errors.ensures,
+      eight_read p _ 0 _ c.part.ensures c.from_le_bytes-head.ensures,
     )

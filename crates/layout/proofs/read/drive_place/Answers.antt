@@ -1,22 +1,7 @@
--- Each number in its turn; one that is none of 0, 1 and 2 means the last.
-use mathlib.Core.Path.{sym}
-use native.Mathlib.Omega.{arith}
-use Rattle.basis.specs.Choice.{pick}
-use Rattle.rules.specs.Unit.{one_of}
-use Rattle.rules.proofs.Places.{last_one}
+-- The places lie a drive's bytes apart.
+use Rattle.std.proofs.Common.{arith}
+use Rattle.layout.proofs.Parts.{drives_apart}
 use Rattle.layout.proofs.read.drive_place.Goals as goal
 
-pub returns-in-0 : goal.returns-in-0
-unfolding one_of pick
-returns-in-0 c = rw c.in-0.is
-
-pub returns-in-1 : goal.returns-in-1
-unfolding one_of pick
-returns-in-1 c = rw c.in-1.is
-
-pub returns-in-2 : goal.returns-in-2
-unfolding one_of pick
-returns-in-2 c = rw c.in-2.is
-
-pub returns-in_default : goal.returns-in_default
-returns-in_default c = sym (last_one _ _ _ _ _ (λ e. omega (arith, e)) (λ e. omega (arith, e)) (λ e. omega (arith, e)))
+pub returns : goal.returns
+returns c = omega (arith, drives_apart c.args.i)

@@ -3,4 +3,4 @@ use Rattle.layout.proofs.read.port_in.Goals as goal
 
 pub returns : goal.returns
 unfolding core_of
-returns c = rw (c.port_of.ensures, c.port_part.ensures)
+returns c = rw (c.port_of.ensures, c.part.ensures)

@@ -1,7 +1,7 @@
 use Rattle.port.proofs.edge.stand_where.Goals as goal
 
-pub returns-in-Past : goal.returns-in-Past
-returns-in-Past c = rw (c.stop.ensures, c.pass_to.ensures, c.in-Past.is)
+pub returns-in-Ok : goal.returns-in-Ok
+returns-in-Ok c = rw (c.stop.ensures, c.pass_to.ensures, c.in-Ok.is)
 
-pub returns-in-Stopped : goal.returns-in-Stopped
-returns-in-Stopped c = rw (c.halt.ensures, c.pass_to-in-Stopped.ensures, c.in-Stopped.is)
+pub returns-in-Err : goal.returns-in-Err
+returns-in-Err c = rw (c.halt.ensures, c.pass_to-in-Err.ensures, c.in-Err.is)

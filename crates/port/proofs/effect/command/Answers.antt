@@ -8,35 +8,35 @@ use Rattle.port.proofs.effect.command.Goals as goal
 pub carry_out-requires : goal.carry_out-requires
 carry_out-requires c =
     let a = c.args in
-    let fine = told c.fault_of-fault.ensures c.in-Fine.is in
+    let fine = told c.fault_of.ensures c.in-Ok.is in
     rw (← c.needs_of.ensures) (fine_has_room a.port.online a.drive (length a.tape.now) _ fine)
 
-pub returns-in-Fine : goal.returns-in-Fine
+pub returns-in-Ok : goal.returns-in-Ok
 unfolding fault_of
-returns-in-Fine c =
-    rw (← c.order_of-order.ensures, ← c.needs_of.ensures, ← c.fault_of-fault.ensures)
-    (rw c.in-Fine.is c.carry_out.ensures)
+returns-in-Ok c =
+    rw (← c.order_of-order.ensures, ← c.needs_of.ensures, ← c.fault_of.ensures)
+    (rw c.in-Ok.is c.carry_out.ensures)
 
-pub returns-in-Illegal : goal.returns-in-Illegal
+pub returns-in-Err-Illegal : goal.returns-in-Err-Illegal
 unfolding fault_of
-returns-in-Illegal c =
+returns-in-Err-Illegal c =
     rw (c.rests.ensures, c.latch.ensures)
-    (rw (← c.order_of-order.ensures, ← c.needs_of.ensures, ← c.fault_of-fault.ensures, c.in-Illegal.is))
+    (rw (← c.order_of-order.ensures, ← c.needs_of.ensures, ← c.fault_of.ensures, c.in-Err-Illegal.is, c.in-Err-Illegal.field-0-is))
 
-pub returns-in-Empty : goal.returns-in-Empty
+pub returns-in-Err-Empty : goal.returns-in-Err-Empty
 unfolding fault_of
-returns-in-Empty c =
-    rw (c.rests-in-Empty.ensures, c.latch-in-Empty.ensures)
-    (rw (← c.order_of-order.ensures, ← c.needs_of.ensures, ← c.fault_of-fault.ensures, c.in-Empty.is))
+returns-in-Err-Empty c =
+    rw (c.rests-in-Err-Empty.ensures, c.latch-in-Err-Empty.ensures)
+    (rw (← c.order_of-order.ensures, ← c.needs_of.ensures, ← c.fault_of.ensures, c.in-Err-Empty.is, c.in-Err-Empty.field-0-is))
 
-pub returns-in-Plugged : goal.returns-in-Plugged
+pub returns-in-Err-Plugged : goal.returns-in-Err-Plugged
 unfolding fault_of
-returns-in-Plugged c =
-    rw (c.rests-in-Plugged.ensures, c.raise.ensures)
-    (rw (← c.order_of-order.ensures, ← c.needs_of.ensures, ← c.fault_of-fault.ensures, c.in-Plugged.is))
+returns-in-Err-Plugged c =
+    rw (c.rests-in-Err-Plugged.ensures, c.raise.ensures)
+    (rw (← c.order_of-order.ensures, ← c.needs_of.ensures, ← c.fault_of.ensures, c.in-Err-Plugged.is, c.in-Err-Plugged.field-0-is))
 
-pub returns-in-Full : goal.returns-in-Full
+pub returns-in-Err-Full : goal.returns-in-Err-Full
 unfolding fault_of
-returns-in-Full c =
-    rw (c.rests-in-Full.ensures, c.stop.ensures)
-    (rw (← c.order_of-order.ensures, ← c.needs_of.ensures, ← c.fault_of-fault.ensures, c.in-Full.is))
+returns-in-Err-Full c =
+    rw (c.rests-in-Err-Full.ensures, c.stop.ensures)
+    (rw (← c.order_of-order.ensures, ← c.needs_of.ensures, ← c.fault_of.ensures, c.in-Err-Full.is, c.in-Err-Full.field-0-is))

@@ -2,15 +2,15 @@
 use Rattle.port.proofs.Made.{block_refused, block_stored}
 use Rattle.port.proofs.given.store.Goals as goal
 
-pub returns-in-Next : goal.returns-in-Next
-returns-in-Next c =
+pub returns-in-Some : goal.returns-in-Some
+returns-in-Some c =
     let a = c.args in
-    let w = rw (c.in-Next.is, c.spare_of.ensures) at c.record_block-made.ensures in
+    let w = rw (c.in-Some.is, c.spare_of.ensures) at c.record_block.ensures in
     rw (c.after_block.ensures, c.one_less.ensures, c.made.ensures)
     (block_stored a.staging.now a.port a.drive a.tape.now _ _ w)
 
-pub returns-in-NoRoom : goal.returns-in-NoRoom
-returns-in-NoRoom c =
+pub returns-in-None : goal.returns-in-None
+returns-in-None c =
     let a = c.args in
-    let w = rw (c.in-NoRoom.is, c.spare_of.ensures) at c.record_block-made.ensures in
+    let w = rw (c.in-None.is, c.spare_of.ensures) at c.record_block.ensures in
     rw (c.leaves.ensures, c.stop.ensures) (block_refused a.staging.now a.port a.drive a.tape.now _ w)

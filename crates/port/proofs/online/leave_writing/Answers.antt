@@ -7,12 +7,12 @@ use borrow.Author.Tests.{le-leb, lt-leb}
 use lib.ListN.{length}
 use Rattle.port.proofs.online.leave_writing.Goals as goal
 
-pub returns-in-Next : goal.returns-in-Next
+pub returns-in-Some : goal.returns-in-Some
 unfolding pick
-returns-in-Next c =
+returns-in-Some c =
     let a = c.args in
-    let w = rw c.in-Next.is at
-    c.record_mark-made.ensures in
+    let w = rw c.in-Some.is at
+    c.record_mark.ensures in
     let m = next_means a.tape.now a.drive.head mark_size 0 mark_record _ _ w in
     rw (
       c.falls.ensures,
@@ -23,10 +23,10 @@ returns-in-Next c =
       m.tape_is,
     )
 
-pub returns-in-NoRoom : goal.returns-in-NoRoom
+pub returns-in-None : goal.returns-in-None
 unfolding pick
-returns-in-NoRoom c =
+returns-in-None c =
     let a = c.args in
-    let w = rw c.in-NoRoom.is at c.record_mark-made.ensures in
+    let w = rw c.in-None.is at c.record_mark.ensures in
     let m = no_room_means a.tape.now a.drive.head mark_size 0 mark_record _ w in
-    rw (c.falls-in-NoRoom.ensures, c.stop.ensures, lt-leb (a.drive.head + mark_room) (length a.tape.now) m.full, m.tape_is)
+    rw (c.falls-in-None.ensures, c.stop.ensures, lt-leb (a.drive.head + mark_room) (length a.tape.now) m.full, m.tape_is)

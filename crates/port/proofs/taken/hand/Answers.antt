@@ -13,7 +13,7 @@ returns c =
     rw (
       c.hands-2.ensures,
       c.at_phase-2.ensures,
-      ← c.pass_to-past.ensures,
+      ← c.pass_to.ensures,
       ← c.check-edge.ensures,
       le-ltb _ _
           c.if-n-lt-LAST_PLACE.false,

@@ -1,5 +1,5 @@
 -- The form of a run that stands for a sentence: what is there, the events, what each of them is answered, and all that is there after them.
-use Rattle.std.specs.Prelude.{ℕ, ◌≡◌, Bool, true, false, List, [], ◌∷◌, map}
+use Rattle.std.specs.Prelude.{ℕ, ◌≡◌, Bool, true, false, List, [], ◌∷◌, map, Option, None, Some}
 use Rattle.rules.specs.declared.answer.Turn.{Turn}
 use Rattle.rules.specs.declared.answer.Lines.{Lines}
 use Rattle.rules.specs.Answer.{row_of}
@@ -8,15 +8,14 @@ use Rattle.rules.specs.Run.{World, run, turns}
 -- What an event is answered: the number, the byte handed out or none, the lines.
 pub record Seen : Type 0 where
   pub answer : ℕ
-  pub given : Bool
-  pub byte : ℕ
+  pub byte : Option ℕ
   pub lines : Lines
 
 abbrev pub says : ℕ → Lines → Seen
-says a l = record { answer = a; given = false; byte = 0; lines = l }
+says a l = record { answer = a; byte = None; lines = l }
 
 abbrev pub hands : ℕ → ℕ → Lines → Seen
-hands a b l = record { answer = a; given = true; byte = b; lines = l }
+hands a b l = record { answer = a; byte = Some b; lines = l }
 
 -- The lines that are up, by their letters; `O` is none of them.
 abbrev pub lines : Bool → Bool → Bool → Lines
@@ -52,7 +51,7 @@ pub record Shown : Type 0 where
   pub end : World
 
 abbrev pub seen_of : Turn → Seen
-seen_of t = record { answer = (row_of t.answer).number; given = t.given; byte = t.byte; lines = t.lines }
+seen_of t = record { answer = (row_of t.answer).number; byte = t.byte; lines = t.lines }
 
 abbrev pub shown_by : Case → Shown
 shown_by r = record { seen = map seen_of (turns r.start r.events); end = run r.start r.events }

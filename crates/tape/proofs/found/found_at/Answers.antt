@@ -11,17 +11,18 @@ returns-then-n-head c = sym (case_found _ _ _ (off_tape c.if-n-head.true))
 pub returns-then-n-head-2 : goal.returns-then-n-head-2
 returns-then-n-head-2 c = sym (case_found _ _ _ (tape_end (sym c.if-n-head-2.true)))
 
-pub returns-then-kind-eq-END : goal.returns-then-kind-eq-END
-returns-then-kind-eq-END c = sym (case_found _ _ _ (one_end (omega arith) c.if-kind-eq-END.true))
+pub returns-in-0 : goal.returns-in-0
+returns-in-0 c = sym (case_found _ _ _ (one_end (omega arith) c.in-0.is))
 
-pub returns-then-n-head-ge-BLOCK_SIZE : goal.returns-then-n-head-ge-BLOCK_SIZE
-returns-then-n-head-ge-BLOCK_SIZE c = sym (case_found _ _ _ (whole_block (omega arith) c.if-kind-eq-BLOCK.true))
+pub returns-in-1 : goal.returns-in-1
+returns-in-1 c = sym (case_found _ _ _ (whole_block (omega arith) c.in-1.is))
 
-pub returns-then-kind-eq-BLOCK : goal.returns-then-kind-eq-BLOCK
-returns-then-kind-eq-BLOCK c = sym (case_found _ _ _ (cut_block (omega arith) (omega arith) c.if-kind-eq-BLOCK.true))
+pub returns-in-1-2 : goal.returns-in-1-2
+returns-in-1-2 c = sym (case_found _ _ _ (cut_block (omega arith) (omega arith) c.in-1.is))
 
-pub returns-then-kind-eq-MARK : goal.returns-then-kind-eq-MARK
-returns-then-kind-eq-MARK c = sym (case_found _ _ _ (one_mark (omega arith) c.if-kind-eq-MARK.true))
+pub returns-in-2 : goal.returns-in-2
+returns-in-2 c = sym (case_found _ _ _ (one_mark (omega arith) c.in-2.is))
 
-pub returns : goal.returns
-returns c = sym (case_found _ _ _ (other_kind (omega arith) c.if-kind-eq-END.false c.if-kind-eq-BLOCK.false c.if-kind-eq-MARK.false))
+pub returns-in_default : goal.returns-in_default
+returns-in_default c =
+    sym (case_found _ _ _ (other_kind (omega arith) (λ e. omega (arith, e)) (λ e. omega (arith, e)) (λ e. omega (arith, e))))

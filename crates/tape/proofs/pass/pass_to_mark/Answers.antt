@@ -4,4 +4,4 @@ use Rattle.tape.specs.declared.pass.Way.{Way}
 use Rattle.tape.proofs.pass.pass_to_mark.Goals as goal
 
 pub returns : goal.returns
-returns c = ap (λ (w : Way). w.end) c.pass_marks-way.ensures
+returns c = ap (λ (w : Way). w.end) c.pass_marks.ensures

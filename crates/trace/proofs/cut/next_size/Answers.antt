@@ -2,22 +2,22 @@ use Rattle.basis.specs.Choice.{pick}
 use Rattle.trace.specs.Cut.{next_size}
 use Rattle.trace.proofs.cut.next_size.Goals as goal
 
-pub returns-in-Whole : goal.returns-in-Whole
+pub returns-in-Ok : goal.returns-in-Ok
 unfolding next_size
-returns-in-Whole c = rw (← c.next_event.ensures, c.in-Whole.is)
+returns-in-Ok c = rw (← c.in-Ok.ensures)
 
-pub returns-in-UnknownKind : goal.returns-in-UnknownKind
+pub returns-in-Err-UnknownKind : goal.returns-in-Err-UnknownKind
 unfolding next_size
-returns-in-UnknownKind c = rw (← c.next_event.ensures, c.in-UnknownKind.is)
+returns-in-Err-UnknownKind c = rw (← c.next_event.ensures, c.in-Err-UnknownKind.is, c.in-Err-UnknownKind.field-0-is)
 
 pub returns-then-ending : goal.returns-then-ending
 unfolding next_size pick
-returns-then-ending c = rw (← c.next_event.ensures, c.in-CutOff.is, c.if-ending.true)
+returns-then-ending c = rw (← c.next_event.ensures, c.in-Err-CutOff.is, c.in-Err-CutOff.field-0-is, c.if-ending.true)
 
 pub returns-else-ending : goal.returns-else-ending
 unfolding next_size pick
-returns-else-ending c = rw (← c.next_event.ensures, c.in-CutOff.is, c.if-ending.false)
+returns-else-ending c = rw (← c.next_event.ensures, c.in-Err-CutOff.is, c.in-Err-CutOff.field-0-is, c.if-ending.false)
 
-pub returns-in-NoneLeft : goal.returns-in-NoneLeft
+pub returns-in-Err-NoneLeft : goal.returns-in-Err-NoneLeft
 unfolding next_size
-returns-in-NoneLeft c = rw (← c.next_event.ensures, c.in-NoneLeft.is)
+returns-in-Err-NoneLeft c = rw (← c.next_event.ensures, c.in-Err-NoneLeft.is, c.in-Err-NoneLeft.field-0-is)

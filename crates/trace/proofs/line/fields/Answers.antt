@@ -9,13 +9,10 @@ pub returns : goal.returns
 unfolding fields_of
 returns c =
     rw (
-      c.or_dash-5.ensures,
-      c.or_dash-4.ensures,
       c.or_dash-3.ensures,
       c.or_dash-2.ensures,
       c.or_dash.ensures,
-      c.low_digit-low.ensures,
-      c.high_digit-high.ensures,
+      c.two_digits-digits.ensures,
       c.digit-number.ensures,
       c.number.ensures,
     )

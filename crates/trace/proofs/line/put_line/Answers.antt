@@ -34,5 +34,5 @@ returns c =
     let a = c.args in (
       omega (arith, c.places-k.ensures),
       rw (c.put.ensures, c.put_number.ensures, c.fields-rest.ensures, c.places-k.ensures)
-          (placed_then a.out.now a.at (decimal a.number) (fields_of a.answer a.lines a.given a.byte) c.requires),
+          (placed_then a.out.now a.at (decimal a.number) (fields_of a.answer a.lines a.byte) c.requires),
     )

@@ -25,7 +25,7 @@ unfolding shown_at line_size pick
 returns-then-has_room c =
     let a = c.args in
     rw (
-      line_length a.number a.answer a.lines a.given a.byte,
+      line_length a.number a.answer a.lines a.byte,
       c.put_line.ensures.1,
       c.put_line.ensures.0,
       ← c.places.ensures,
@@ -37,7 +37,7 @@ unfolding shown_at line_size pick
 returns-else-has_room c =
     let a = c.args in
     rw (
-      line_length a.number a.answer a.lines a.given a.byte,
+      line_length a.number a.answer a.lines a.byte,
       ← c.places.ensures,
       told
           c.has_room.ensures c.if-has_room.false,

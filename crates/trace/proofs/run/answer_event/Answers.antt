@@ -14,8 +14,8 @@ put_line-next-requires c =
     let a = c.args in
     (room_fits (length a.out.now) a.full a.count c.requires).1
 
-pub returns : goal.returns
-returns c =
+pub returns-clause-answers : goal.returns-clause-answers
+returns-clause-answers c =
     let a = c.args in
     rw (c.put_line-next.ensures.1, c.put_line-next.ensures.0, c.stops.ensures)
-    (turn_made _ _ _ _ _ c.step_lent-turn.ensures (a.count + 1) a.full a.out.now)
+    (turn_made _ _ _ _ _ c.step_lent-turn.ensures.step (a.count + 1) a.full a.out.now)

@@ -3,7 +3,7 @@ use Prim.Native.Nat.{◌-◌}
 use mathlib.Core.Path.{◌≡◌}
 use native.Mathlib.Omega.{arith}
 use lib.ListN.{length, length-take, length-drop}
-use Rattle.rules.specs.Unit.{lent}
+use Rattle.unit.specs.Tapes.{lent_on}
 use Rattle.rules.specs.Refusal.{short}
 use Rattle.unit.proofs.Ahead.{given_fits, given_within}
 use Rattle.unit.proofs.Legs.{given_leg, given_one}
@@ -27,19 +27,19 @@ overflow_add-n c =
     let n = c.given_before-n.ensures in
     omega (arith, within, n)
 
-pub returns-then-k-gt0 : goal.returns-then-k-gt0
+pub returns-then-k-gt0-clause-gives : goal.returns-then-k-gt0-clause-gives
 unfolding short
-returns-then-k-gt0 c =
+returns-then-k-gt0-clause-gives c =
     let a = c.args in
-    let l = lent a.staging.now a.tape0.now a.tape1.now a.tape2.now a.tape3.now in
+    let l = lent_on a.staging.now a.tapes.now in
     let is = rw (c.possible.ensures, c.short.ensures) at c.given_ahead-k.ensures in
     let n = c.given_before-n.ensures in
     let part : c.given_ahead-k.result - 0 ≡ c.given_ahead-k.result = omega arith in
     given_leg a.core l a.bytes.now _ _ _ c.requires.0 is c.if-k-gt0.true (rw (n) at c.moved_on.ensures)
     (rw (n, part) at c.put.ensures)
 
-pub returns : goal.returns
-returns c =
+pub returns-clause-gives : goal.returns-clause-gives
+returns-clause-gives c =
     let a = c.args in
-    let l = lent a.staging.now a.tape0.now a.tape1.now a.tape2.now a.tape3.now in
-    given_one a.core l a.bytes.now _ _ _ c.requires.1 c.step_lent-last.ensures (rw c.refuses.ensures at c.one_if.ensures)
+    let l = lent_on a.staging.now a.tapes.now in
+    given_one a.core l a.bytes.now _ _ _ c.requires.1 c.step_lent-last.ensures.step (rw c.refuses.ensures at c.one_if.ensures)

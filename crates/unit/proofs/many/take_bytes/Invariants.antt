@@ -5,7 +5,7 @@ use mathlib.Core.List.{List}
 use lib.ListN.{length}
 use Rattle.basis.specs.Placed.{placed}
 use Rattle.rules.specs.declared.answer.Turn.{Turn}
-use Rattle.rules.specs.Unit.{lent}
+use Rattle.unit.specs.Tapes.{lent_on, Same}
 use Rattle.rules.specs.Run.{taken_times}
 use Rattle.rules.specs.Promises.Strike.{handed_out}
 use Rattle.unit.specs.Handover.{went_out}
@@ -13,9 +13,9 @@ use Rattle.unit.proofs.Handover.{Standing}
 use Rattle.unit.proofs.many.take_bytes.Given as goal
 
 abbrev pub invariant-loop-count : goal.invariant-loop-count
-invariant-loop-count l = Standing went_out l.initial.last.core (lent l.initial.staging l.initial.tape0 l.initial.tape1 l.initial.tape2 l.initial.tape3) (taken_times (length l.initial.out)) l.count l.last
-    (lent l.staging l.tape0 l.tape1 l.tape2 l.tape3) (taken_times (length l.initial.out - l.count)) (λ (rs : List Turn). l.out ≡ placed l.initial.out 0 (handed_out rs))
-    × ((l.count ≤ length l.initial.out) × (length l.out ≡ length l.initial.out))
+invariant-loop-count l = Standing went_out l.initial.last.core (lent_on l.initial.staging l.initial.tapes) (taken_times (length l.initial.out)) l.count l.last
+    (lent_on l.staging l.tapes) (taken_times (length l.initial.out - l.count)) (λ (rs : List Turn). l.out ≡ placed l.initial.out 0 (handed_out rs))
+    × ((l.count ≤ length l.initial.out) × ((length l.out ≡ length l.initial.out) × Same l.initial.tapes l.tapes))
 
 abbrev pub decreases-loop-count : goal.decreases-loop-count
 decreases-loop-count l = length l.out - l.count

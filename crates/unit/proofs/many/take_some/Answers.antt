@@ -3,7 +3,7 @@ use mathlib.Core.Path.{◌≡◌, ◌∙◌}
 use native.Mathlib.Omega.{arith}
 use Rattle.basis.specs.Choice.{pick}
 use Rattle.basis.proofs.Placing.{placed_none}
-use Rattle.rules.specs.Unit.{lent}
+use Rattle.unit.specs.Tapes.{lent_on}
 use Rattle.rules.specs.Refusal.{short}
 use Rattle.unit.proofs.Ahead.{taken_fits, taken_within}
 use Rattle.unit.proofs.Legs.{taken_leg, taken_one}
@@ -28,11 +28,11 @@ bounds-out-at c =
     let fits = taken_fits a.core _ _ _ _ c.taken_ahead-k.ensures.count c.if-k-gt0.true in
     omega (arith, fits, c.requires.1, c.taken_ahead-k.auto.out, c.if-k-gt0.true)
 
-pub returns-then-k-gt0 : goal.returns-then-k-gt0
+pub returns-then-k-gt0-clause-takes : goal.returns-then-k-gt0-clause-takes
 unfolding short
-returns-then-k-gt0 c =
+returns-then-k-gt0-clause-takes c =
     let a = c.args in
-    let l = lent a.staging.now a.tape0.now a.tape1.now a.tape2.now a.tape3.now in
+    let l = lent_on a.staging.now a.tapes.now in
     let is = rw (c.possible.ensures, c.short.ensures) at c.taken_ahead-k.ensures.count in
     let turn = rw c.taken_before-n.ensures at c.moved_on.ensures in
     taken_leg a.core l a.out.now a.at _ _ _ c.requires.0 (omega (arith, c.requires.1)) is c.if-k-gt0.true
@@ -46,12 +46,12 @@ pub shape_of-out : goal.shape_of-out
 shape_of-out c =
     c.keep.auto.out ∙ c.taken_ahead-k.auto.out
 
-pub returns : goal.returns
+pub returns-clause-takes : goal.returns-clause-takes
 unfolding pick
-returns c =
+returns-clause-takes c =
     let a = c.args in
-    let l = lent a.staging.now a.tape0.now a.tape1.now a.tape2.now a.tape3.now in
+    let l = lent_on a.staging.now a.tapes.now in
     let none : c.taken_ahead-k.result ≡ 0 = omega (arith, c.if-k-gt0.false) in
     let same = rw (none) at c.taken_ahead-k.ensures.bytes ∙ placed_none a.out.now a.at in
-    taken_one a.core l a.out.now a.at _ _ _ _ c.requires.0 c.requires.1 c.step_lent-last.ensures c.one_if.ensures
+    taken_one a.core l a.out.now a.at _ _ _ _ c.requires.0 c.requires.1 c.step_lent-last.ensures.step (rw c.is_some.ensures at c.one_if.ensures)
     (rw (same) at c.keep.ensures)

@@ -1,8 +1,11 @@
 -- A byte or an octet that moves the phase alone, then each sort of event as the book settles it.
-use mathlib.Core.Path.{ap, ◌∙◌}
-use Rattle.rules.specs.declared.event.Event.TheVariants.{NoEvent, Reset}
+use native.Mathlib.Omega.{arith}
+use mathlib.Core.Path.{ap, ◌∙◌, sym}
+use Rattle.std.specs.Prelude.{None, Some}
+use Rattle.rules.specs.declared.event.Event.TheVariants.{Reset}
 use Rattle.rules.specs.declared.answer.Turn.{Turn}
-use Rattle.rules.specs.Unit.{lent, one_of, put_at, put_last}
+use Rattle.unit.specs.Tapes.{lent_on}
+use Rattle.rules.specs.Unit.{one_of, put_at, put_last}
 use Rattle.rules.specs.Refusal.{short}
 use Rattle.rules.specs.Step.{stepped}
 use Rattle.basis.specs.Choice.{pick}
@@ -11,86 +14,86 @@ use Rattle.unit.proofs.Settling.{steps_by, own_at_lem, own_last}
 use Rattle.answers.proofs.Settling.{none_refused}
 use Rattle.unit.proofs.steps.step_lent.Goals as goal
 
-pub returns-then-possible-short : goal.returns-then-possible-short
+pub returns-then-possible-short-clause-step : goal.returns-then-possible-short-clause-step
 unfolding short
-returns-then-possible-short c =
+returns-then-possible-short-clause-step c =
     let a = c.args in
-    let l = lent a.staging.now a.tape0.now a.tape1.now a.tape2.now a.tape3.now in
+    let l = lent_on a.staging.now a.tapes.now in
     given_steps a.core l a.event.now _ _ _ c.possible-possible.ensures c.short-short.ensures _ _ _
     c.given_place-n.ensures.0 c.if-n-gt0.true c.look.ensures c.if-possible-short.true c.moved_on.ensures
     (rw c.body.ensures at c.stage.ensures)
 
-pub returns-then-possible-short-2 : goal.returns-then-possible-short-2
+pub returns-in-Some-clause-step : goal.returns-in-Some-clause-step
 unfolding short
-returns-then-possible-short-2 c =
+returns-in-Some-clause-step c =
     let a = c.args in
-    let l = lent a.staging.now a.tape0.now a.tape1.now a.tape2.now a.tape3.now in
+    let l = lent_on a.staging.now a.tapes.now in
     taken_steps a.core l a.event.now _ _ _ c.possible-possible.ensures c.short-short.ensures _ _ c.taken_place-n.ensures.0
-    c.if-n-gt0-2.true c.next_byte-next.ensures c.if-possible-short-2.true c.moved_on-then-possible-short-2.ensures
+    c.if-n-gt0-2.true c.if-possible-short-2.true (sym c.next_byte.ensures ∙ c.in-Some.is) c.moved_on-in-Some.ensures
 
-pub returns-then-possible-short-3 : goal.returns-then-possible-short-3
+pub returns-then-possible-short-3-clause-step : goal.returns-then-possible-short-3-clause-step
 unfolding short
-returns-then-possible-short-3 c =
+returns-then-possible-short-3-clause-step c =
     let a = c.args in
-    let l = lent a.staging.now a.tape0.now a.tape1.now a.tape2.now a.tape3.now in
+    let l = lent_on a.staging.now a.tapes.now in
     octet_steps a.core l a.event.now _ _ _ c.possible-possible.ensures c.short-short.ensures _ _ _ c.octets_left-k.ensures
     c.if-k-gt0.true c.if-possible-short-3.true c.done.ensures c.next_octet.ensures
     (rw c.after_octet.ensures at c.moved_to-after.ensures)
 
-pub returns-then-port-eq0 : goal.returns-then-port-eq0
+pub returns-in-0-clause-step : goal.returns-in-0-clause-step
 unfolding short one_of put_at put_last pick
-returns-then-port-eq0 c =
+returns-in-0-clause-step c =
     let a = c.args in
-    let l = lent a.staging.now a.tape0.now a.tape1.now a.tape2.now a.tape3.now in
-    steps_by a.core l a.event.now _ _ _ _ _ _ c.event_of-e.ensures c.in-Own.is c.possible-possible.ensures
-    c.short-short.ensures (own_at_lem a.core _ _ l _ _ _ _ 0 c.if-port-eq0.true c.act_on.ensures)
+    let l = lent_on a.staging.now a.tapes.now in
+    steps_by a.core l a.event.now _ _ _ _ _ _ c.event_of.ensures (c.in-Some-Own.is ∙ ap Some c.in-Some-Own.field-0-is) c.possible-possible.ensures
+    c.short-short.ensures (own_at_lem a.core _ _ l _ _ _ _ 0 c.in-0.is c.act_on.ensures)
 
-pub returns-then-port-eq1 : goal.returns-then-port-eq1
+pub returns-in-1-clause-step : goal.returns-in-1-clause-step
 unfolding short one_of put_at put_last pick
-returns-then-port-eq1 c =
+returns-in-1-clause-step c =
     let a = c.args in
-    let l = lent a.staging.now a.tape0.now a.tape1.now a.tape2.now a.tape3.now in
-    steps_by a.core l a.event.now _ _ _ _ _ _ c.event_of-e.ensures c.in-Own.is c.possible-possible.ensures
-    c.short-short.ensures (own_at_lem a.core _ _ l _ _ _ _ 1 c.if-port-eq1.true c.act_on-then-port-eq1.ensures)
+    let l = lent_on a.staging.now a.tapes.now in
+    steps_by a.core l a.event.now _ _ _ _ _ _ c.event_of.ensures (c.in-Some-Own.is ∙ ap Some c.in-Some-Own.field-0-is) c.possible-possible.ensures
+    c.short-short.ensures (own_at_lem a.core _ _ l _ _ _ _ 1 c.in-1.is c.act_on-in-1.ensures)
 
-pub returns-then-port-eq2 : goal.returns-then-port-eq2
+pub returns-in-2-clause-step : goal.returns-in-2-clause-step
 unfolding short one_of put_at put_last pick
-returns-then-port-eq2 c =
+returns-in-2-clause-step c =
     let a = c.args in
-    let l = lent a.staging.now a.tape0.now a.tape1.now a.tape2.now a.tape3.now in
-    steps_by a.core l a.event.now _ _ _ _ _ _ c.event_of-e.ensures c.in-Own.is c.possible-possible.ensures
-    c.short-short.ensures (own_at_lem a.core _ _ l _ _ _ _ 2 c.if-port-eq2.true c.act_on-then-port-eq2.ensures)
+    let l = lent_on a.staging.now a.tapes.now in
+    steps_by a.core l a.event.now _ _ _ _ _ _ c.event_of.ensures (c.in-Some-Own.is ∙ ap Some c.in-Some-Own.field-0-is) c.possible-possible.ensures
+    c.short-short.ensures (own_at_lem a.core _ _ l _ _ _ _ 2 c.in-2.is c.act_on-in-2.ensures)
 
-pub returns-in-NoEvent : goal.returns-in-NoEvent
+pub returns-in-None-clause-step : goal.returns-in-None-clause-step
 unfolding short
-returns-in-NoEvent c =
+returns-in-None-clause-step c =
     let a = c.args in
-    let l = lent a.staging.now a.tape0.now a.tape1.now a.tape2.now a.tape3.now in
-    steps_by a.core l a.event.now _ l _ NoEvent _ _ c.event_of-e.ensures c.in-NoEvent.is
+    let l = lent_on a.staging.now a.tapes.now in
+    steps_by a.core l a.event.now _ l _ None _ _ c.event_of.ensures c.in-None.is
     c.possible-possible.ensures c.short-short.ensures
     (ap (λ (x : Turn). stepped x l) c.refuse.ensures ∙ none_refused a.core _ _ _ c.refusal_by.ensures l)
 
-pub returns-in-Reset : goal.returns-in-Reset
+pub returns-in-Some-Reset-clause-step : goal.returns-in-Some-Reset-clause-step
 unfolding short
-returns-in-Reset c =
+returns-in-Some-Reset-clause-step c =
     let a = c.args in
-    let l = lent a.staging.now a.tape0.now a.tape1.now a.tape2.now a.tape3.now in
-    steps_by a.core l a.event.now _ l _ Reset _ _ c.event_of-e.ensures c.in-Reset.is c.possible-possible.ensures
+    let l = lent_on a.staging.now a.tapes.now in
+    steps_by a.core l a.event.now _ l _ (Some Reset) _ _ c.event_of.ensures (c.in-Some-Reset.is ∙ ap Some c.in-Some-Reset.field-0-is) c.possible-possible.ensures
     c.short-short.ensures (c.reset.ensures l)
 
-pub returns-in-Named : goal.returns-in-Named
+pub returns-in-Some-Named-clause-step : goal.returns-in-Some-Named-clause-step
 unfolding short
-returns-in-Named c =
+returns-in-Some-Named-clause-step c =
     let a = c.args in
-    let l = lent a.staging.now a.tape0.now a.tape1.now a.tape2.now a.tape3.now in
-    steps_by a.core l a.event.now _ l _ _ _ _ c.event_of-e.ensures c.in-Named.is c.possible-possible.ensures
+    let l = lent_on a.staging.now a.tapes.now in
+    steps_by a.core l a.event.now _ l _ _ _ _ c.event_of.ensures (c.in-Some-Named.is ∙ ap Some c.in-Some-Named.field-0-is) c.possible-possible.ensures
     c.short-short.ensures (c.slot.ensures l)
 
-pub returns-else-port-eq2 : goal.returns-else-port-eq2
+pub returns-in_default-selected-clause-step : goal.returns-in_default-selected-clause-step
 unfolding short
-returns-else-port-eq2 c =
+returns-in_default-selected-clause-step c =
     let a = c.args in
-    let l = lent a.staging.now a.tape0.now a.tape1.now a.tape2.now a.tape3.now in
-    steps_by a.core l a.event.now _ _ _ _ _ _ c.event_of-e.ensures c.in-Own.is c.possible-possible.ensures
-    c.short-short.ensures (own_last a.core _ _ l _ _ _ _ c.if-port-eq0.false c.if-port-eq1.false c.if-port-eq2.false
-    c.act_on-in-Own.ensures)
+    let l = lent_on a.staging.now a.tapes.now in
+    steps_by a.core l a.event.now _ _ _ _ _ _ c.event_of.ensures (c.in-Some-Own.is ∙ ap Some c.in-Some-Own.field-0-is) c.possible-possible.ensures
+    c.short-short.ensures (own_last a.core _ _ l _ _ _ _ (λ e. omega (arith, e)) (λ e. omega (arith, e)) (λ e. omega (arith, e))
+    c.act_on-in_default-selected.ensures)

@@ -1,4 +1,0 @@
-use Rattle.rules.proofs.drive.Drive.count_underrun.Goals as goal
-
-pub returns : goal.returns
-returns c = rw c.one_more-n.ensures
