@@ -162,7 +162,7 @@ fn complete_taken(
     let phase = port.phase;
     let i = port.selected;
     let drive = drive_in(buffer, i);
-    let k = read_on(drive, i, tapes, phase, bytes);
+    let k = read_on(drive, tapes.of(i), phase, bytes);
     if k == 0 {
         return take_all(buffer, tapes, bytes, res);
     }

@@ -66,7 +66,7 @@ pub(crate) fn serve(buffer: &mut [u8], tapes: &mut Tapes<'_>, event: &[u8]) -> [
     let phase = port.phase;
     let i = port.selected;
     let drive = drive_in(buffer, i);
-    if let Some(inside) = within_block(phase, drive, i, tapes, event) {
+    if let Some(inside) = within_block(phase, drive, tapes.of(i), event) {
         if possible_in(buffer) & tapes.short() {
             return move_on(buffer, phase, inside);
         }

@@ -70,12 +70,11 @@ fn read_ahead(drive: Drive, tape: &[u8], phase: Phase, out: &mut [u8], at: usize
     0
 }
 
-// The same off the tape with the drive's number, to the front of the buffer.
-pub fn read_on(drive: Drive, i: u8, tapes: &Tapes<'_>, phase: Phase, out: &mut [u8]) -> usize
-    ensures { ReadsOn drive (tape_of tapes.now i) phase
-        out.old result out.new }
+// The same, to the front of the buffer.
+pub fn read_on(drive: Drive, tape: &[u8], phase: Phase, out: &mut [u8]) -> usize
+    ensures { ReadsOn drive tape.now phase out.old result out.new }
 {
-    read_ahead(drive, tapes.of(i), phase, out, 0)
+    read_ahead(drive, tape, phase, out, 0)
 }
 
 // The same off the tape of the selected drive, from an offset on.

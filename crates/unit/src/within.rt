@@ -52,17 +52,9 @@ pub(crate) fn next_byte(core: Core, tapes: &Tapes<'_>, n: usize) -> Option<u8>
     next_of(core.drive(i), tapes.of(i), n)
 }
 
-// What an event comes to in a phase, on the drive that is selected, if it is a byte within a block.
-pub fn within_block(
-    phase: Phase,
-    drive: Drive,
-    selected: u8,
-    tapes: &Tapes<'_>,
-    event: &[u8],
-) -> Option<Inside>
-    ensures { result ≡ inside_of phase drive
-        (tape_of tapes.now selected)
-        event.now }
+// What an event comes to in a phase, on the drive that is selected and its tape, if it is a byte within a block.
+pub fn within_block(phase: Phase, drive: Drive, tape: &[u8], event: &[u8]) -> Option<Inside>
+    ensures { result ≡ inside_of phase drive tape.now event.now }
 {
     let n = given_place(phase, event);
     if (0 < n) & drive.writes() {
@@ -74,7 +66,7 @@ pub fn within_block(
     }
     let n = taken_place(phase, event);
     if 0 < n {
-        let byte = next_of(drive, tapes.of(selected), n)?;
+        let byte = next_of(drive, tape, n)?;
         return Some(Inside {
             act: Act::Take,
             phase: Phase::Giving(n + 1),

@@ -54,7 +54,7 @@ returns-clause-served c =
     let front = c.read_on-k.new.out in
     let n = taken_before (core_of l).port.phase in
     let before : c.taken_before.result ≡ n = c.taken_before.ensures ∙ ap (λ (p : Port). taken_before p.phase) port in
-    let took = rw (c.drive_in-drive.ensures, port) at c.read_on-k.ensures in
+    let took = rw (c.drive_in-drive.ensures, c.of.ensures, port) at c.read_on-k.ensures in
     let some : 1 ≤ k = omega (arith, c.if-k-eq0.false) in
     let is =
     rw (before) at c.write_phase.ensures ∙ ap (λ (x : List ℕ). placed x phase_at (phase_bytes (Giving (n + k)))) (sym (own_staging l pre.0)) in

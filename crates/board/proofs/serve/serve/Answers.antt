@@ -27,7 +27,7 @@ returns-then-possible_in-short-clause-served c =
     let port = c.port_in-port.ensures in
     let calm = rw (c.possible_in.ensures, c.short.ensures) at c.if-possible_in-short.true in
     byte_served a.buffer.now (tapes_of a.tapes.now) a.event.now _ _ _ _
-    (λ i. search rules) c.requires calm (rw (c.drive_in-drive.ensures, port) at (sym c.within_block.ensures ∙ c.in-Some.is)) refl
+    (λ i. search rules) c.requires calm (rw (c.drive_in-drive.ensures, c.of.ensures, port) at (sym c.within_block.ensures ∙ c.in-Some.is)) refl
     (rw (port) at moved.buffer_len) moved.value (rw (port) at moved.buffer_after)
 
 pub serve_step-requires : goal.serve_step-requires

@@ -16,7 +16,7 @@ unfolding pick inside_of
 returns-then-n-gt0 c =
     let no = rw (c.writes.ensures, c.given_place-n.ensures.0) at c.if-n-writes.false in
     let some = rw c.taken_place-n.ensures.0 at (lt-ltb 0 _ c.if-n-gt0.true) in
-    let there = rw (c.of.ensures, c.taken_place-n.ensures.0) at (sym c.next_of.ensures ∙ c.in_ok-byte.was) in
+    let there = rw c.taken_place-n.ensures.0 at (sym c.next_of.ensures ∙ c.in_ok-byte.was) in
     rw (c.taken_place-n.ensures.0, no, some, there)
 
 pub returns : goal.returns
@@ -31,5 +31,5 @@ unfolding pick inside_of
 returns-in_err-byte c =
     let no = rw (c.writes.ensures, c.given_place-n.ensures.0) at c.if-n-writes.false in
     let some = rw c.taken_place-n.ensures.0 at (lt-ltb 0 _ c.if-n-gt0.true) in
-    let none = rw (c.of.ensures, c.taken_place-n.ensures.0) at (sym c.next_of.ensures ∙ c.in_err-byte.was) in
+    let none = rw c.taken_place-n.ensures.0 at (sym c.next_of.ensures ∙ c.in_err-byte.was) in
     rw (c.from_residual.ensures, no, some, none)
