@@ -22,7 +22,7 @@ use Rattle.answers.specs.declared.looks.Seen.{Seen}
 use Rattle.answers.specs.Looks.{look_of}
 use Rattle.answers.specs.Moved.{moved_on}
 use Rattle.answers.specs.Settled.{Settles}
-use Rattle.answers.specs.Place.{given_place, taken_place, octets_left, body_of}
+use Rattle.answers.specs.Place.{given_place, taken_place, octets_left}
 
 -- None of four lengths is above the longest.
 abbrev pub short_by : ℕ → ℕ → ℕ → ℕ → Bool
@@ -35,14 +35,14 @@ OneTurn c p s e = (r r' : Turn) → Settles c p s e r → Settles c p s e r' →
 pub record OneOutcome : Type 0 where
   pub event_of : (l : List ℕ) (r r' : Option Event) → r ≡ event_of l → r' ≡ event_of l → r ≡ r'
   pub lines : (c : Core) (r r' : Lines) → r ≡ lines_of c → r' ≡ lines_of c → r ≡ r'
-  pub given_place : (ph : Phase) (l : List ℕ) (r r' : ℕ) → r ≡ given_place ph l → r' ≡ given_place ph l → r ≡ r'
-  pub taken_place : (ph : Phase) (l : List ℕ) (r r' : ℕ) → r ≡ taken_place ph l → r' ≡ taken_place ph l → r ≡ r'
-  pub octets_left : (ph : Phase) (l : List ℕ) (r r' : ℕ) → r ≡ octets_left ph l → r' ≡ octets_left ph l → r ≡ r'
-  pub body : (l : List ℕ) (r r' : ℕ) → r ≡ body_of l → r' ≡ body_of l → r ≡ r'
+  pub given_place : (ph : Phase) (l : List ℕ) (r r' : Option (ℕ × ℕ)) → r ≡ given_place ph l → r' ≡ given_place ph l → r ≡ r'
+  pub taken_place : (ph : Phase) (l : List ℕ) (r r' : Option ℕ) → r ≡ taken_place ph l → r' ≡ taken_place ph l → r ≡ r'
+  pub octets_left : (ph : Phase) (l : List ℕ) (r r' : Option ℕ) → r ≡ octets_left ph l → r' ≡ octets_left ph l → r ≡ r'
   pub possible_drive : (d : Drive) (r r' : Bool) → r ≡ possible_drive d → r' ≡ possible_drive d → r ≡ r'
   pub possible_at : (ph : Phase) (d : Drive) (r r' : Bool) → r ≡ possible_phase ph d.mode → r' ≡ possible_phase ph d.mode → r ≡ r'
   pub possible : (c : Core) (r r' : Bool) → r ≡ possible c → r' ≡ possible c → r ≡ r'
   pub short : (a b c d : ℕ) (r r' : Bool) → r ≡ short_by a b c d → r' ≡ short_by a b c d → r ≡ r'
+  pub calm : (p s : Bool) (r r' : Bool) → r ≡ (p && s) → r' ≡ (p && s) → r ≡ r'
   pub in_step : (ph : Phase) (w g : Bool) (a : Act) (r r' : Bool) → r ≡ in_step ph w g a → r' ≡ in_step ph w g a → r ≡ r'
   pub slot_answer : (loaded : Bool) (w : What) (r r' : Answer) → r ≡ slot_answer loaded w → r' ≡ slot_answer loaded w → r ≡ r'
   pub unless : (fits : Bool) (a r r' : Answer) → r ≡ pick fits Taken a → r' ≡ pick fits Taken a → r ≡ r'

@@ -12,9 +12,9 @@ mod turn;
 
 pub use event::event_of;
 pub use looks::{Seen, look};
-pub use place::{body, given_place, octets_left, taken_place};
+pub use place::{given_place, octets_left, taken_place};
 pub use possibility::{possible, possible_at, possible_drive};
-pub use refusal::{in_step, refusal_by, short, slot_answer, unless};
+pub use refusal::{Sound, in_step, refusal_by, short, slot_answer, unless};
 pub use slots::{reset, slot};
 pub use three_lines::lines;
 pub use turn::{done, moved_on, moved_to, refuse};

@@ -15,6 +15,22 @@ pub fn short(tape0: usize, tape1: usize, tape2: usize, tape3: usize) -> bool
     (tape0 <= LONGEST) & ((tape1 <= LONGEST) & ((tape2 <= LONGEST) & (tape3 <= LONGEST)))
 }
 
+// What 5 and 6 go by: whether the record is possible, and whether the four lent tapes are short.
+#[derive(Clone, Copy)]
+pub struct Sound {
+    pub possible: bool,
+    pub short: bool,
+}
+
+impl Sound {
+    // Neither of them refuses.
+    pub fn calm(self) -> bool
+        ensures { result ≡ (self.possible && self.short) }
+    {
+        self.possible & self.short
+    }
+}
+
 // 2: a byte given asks for Writing without EXCEPTION, at Rest or inside a block.
 fn takes(phase: Phase, writing: bool) -> bool
     ensures { result ≡ takes phase writing }
@@ -66,11 +82,11 @@ pub fn slot_answer(loaded: bool, what: What) -> Answer
 }
 
 // 5 before 6, and 6 before the others.
-pub fn refusal_by(possible: bool, short: bool, answer: Answer) -> Answer
-    ensures { result ≡ refusal_by possible short answer }
+pub fn refusal_by(sound: Sound, answer: Answer) -> Answer
+    ensures { result ≡ refusal_by sound.possible sound.short answer }
 {
-    if possible {
-        if short { answer } else { Answer::TooLong }
+    if sound.possible {
+        if sound.short { answer } else { Answer::TooLong }
     } else {
         Answer::Impossible
     }

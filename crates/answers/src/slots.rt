@@ -7,7 +7,7 @@ ghost use Rattle.rules.specs.Step.{befallen_at};
 ghost use Rattle.answers.specs.Settled.{Settles};
 
 use crate::looks::look;
-use crate::refusal::{refusal_by, slot_answer};
+use crate::refusal::{Sound, refusal_by, slot_answer};
 use crate::turn::{done, refuse};
 use count::count_in;
 use rules::{Answer, Core, Errors, Phase, Turn, Underruns, What};
@@ -38,19 +38,15 @@ fn phase_after(here: bool, phase: Phase) -> Phase
 fn cartridge_out(core: Core, i: u8) -> Core
     ensures { result ≡ befallen_at core i Out }
 {
-    let port = core.port;
-    let phase = port.phase;
-    let here = i == port.selected;
-    let after = port.at_phase(phase_after(here, phase));
-    let drive = core.drive(i).unload();
-    core.put(after, i, drive)
+    let here = i == core.port.selected;
+    let after = core.port.at_phase(phase_after(here, core.port.phase));
+    core.put(after, i, core.drive(i).unload())
 }
 
 fn cartridge_in(core: Core, i: u8, plug: bool) -> Core
     ensures { result ≡ befallen_at core i (In plug) }
 {
-    let drive = core.drive(i).load(plug);
-    core.put(core.port, i, drive)
+    core.put(core.port, i, core.drive(i).load(plug))
 }
 
 // Cartridge in, cartridge out, or one counter raised where the record stands.
@@ -66,11 +62,11 @@ fn befall(core: Core, i: u8, what: What) -> Core
 }
 
 // Refused, or the record of the drive named is changed, whichever is selected.
-pub fn slot(core: Core, possible: bool, short: bool, i: u8, what: What) -> Turn
-    ensures { Settles core possible short (Some (Named i what)) result }
+pub fn slot(core: Core, sound: Sound, i: u8, what: What) -> Turn
+    ensures { Settles core sound.possible sound.short (Some (Named i what)) result }
 {
     let loaded = look(core, i).loaded;
-    let answer = refusal_by(possible, short, slot_answer(loaded, what));
+    let answer = refusal_by(sound, slot_answer(loaded, what));
     if answer.refuses() {
         return refuse(answer, core);
     }
@@ -78,10 +74,10 @@ pub fn slot(core: Core, possible: bool, short: bool, i: u8, what: What) -> Turn
 }
 
 // RESET, which nothing refuses but 5 and 6.
-pub fn reset(core: Core, possible: bool, short: bool) -> Turn
-    ensures { Settles core possible short (Some Reset) result }
+pub fn reset(core: Core, sound: Sound) -> Turn
+    ensures { Settles core sound.possible sound.short (Some Reset) result }
 {
-    let answer = refusal_by(possible, short, Answer::Taken);
+    let answer = refusal_by(sound, Answer::Taken);
     if answer.refuses() {
         return refuse(answer, core);
     }

@@ -1,4 +1,4 @@
-// A number in decimal, a byte in hex.
+// A number in decimal, a byte in hex. Not by `write!`: there is no heap, and a text is asked for its length before a byte of it is written.
 ghost use Rattle.std.specs.Prelude.{◌≡◌, ◌+◌, ◌≤◌, ◌<◌, length};
 ghost use Rattle.basis.specs.Placed.{placed};
 ghost use Rattle.basis.specs.Text.{digit, decimal, high_digit, low_digit};
@@ -42,6 +42,7 @@ pub fn places(n: u64) -> usize
 {
     let mut k: usize = 1;
     let mut rest = n;
+    // No `for`: what is left of the number ends the loop, and how many turns that takes is what is asked.
     while TEN <= rest {
         rest /= TEN;
         k += 1;
@@ -56,6 +57,7 @@ pub fn put_number(out: &mut [u8], at: usize, n: u64, k: usize)
 {
     let mut i = k;
     let mut rest = n;
+    // No `for` over the places: each digit is taken off what is left of the number, and that ends the loop.
     while TEN <= rest {
         i -= 1;
         out[at + i] = digit((rest % TEN) as u8);

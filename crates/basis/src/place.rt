@@ -2,7 +2,7 @@
 ghost use Rattle.std.specs.Prelude.{◌≡◌, ◌+◌, ◌≤◌, length};
 ghost use Rattle.basis.specs.Placed.{placed};
 
-// These bytes at an offset of the buffer.
+// These bytes at an offset of the buffer: the whole of it and no part, since every byte of it is promised.
 pub fn put(out: &mut [u8], at: usize, bytes: &[u8])
     requires { at + length bytes.now ≤ length out.old }
     ensures { out.new ≡ placed out.old at bytes.now }

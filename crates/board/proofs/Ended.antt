@@ -10,6 +10,7 @@ use lib.ListN.{length, get_or, take, drop, set, length-drop, take-append-drop}
 use lib.Seq.{get_or-drop, take_all}
 use lib.Dec.{eqb, ltb}
 use borrow.Author.Tests.{eqb-true, ltb-true, le-ltb}
+use Rattle.std.specs.Int.{from_bool}
 use Rattle.basis.specs.Choice.{pick}
 use Rattle.basis.specs.Placed.{placed}
 use Rattle.basis.proofs.Placing.{placed_none, placed_sets}
@@ -60,8 +61,7 @@ all_but_one rest n count so = go (rest || ltb 0 n) (ltb n 511) refl refl
     go true true ep eq =
         let is : count ≡ 512 - n = eqb-true count (512 - n) (rw (ep, eq) at so) in
         let lt : n < 511 = ltb-true n 511 eq in
-        let more : ltb count (511 - n) ≡ false = le-ltb count (511 - n) (omega (arith, is, lt)) in
-        record { ahead = rw (ep, eq, more) (omega (arith, is, lt)); place = omega (arith, is, lt); two = omega (arith, is, lt) }
+        record { ahead = rw (ep, eq) (omega (arith, is, lt)); place = omega (arith, is, lt); two = omega (arith, is, lt) }
     go true false ep eq = absurd (false≢true (rw (ep, eq) at so))
     go false q ep eq = absurd (false≢true (rw (ep) at so))
 
@@ -106,15 +106,15 @@ byte_put l k inside None = sym (placed_none l k)
 byte_put l k inside (Some b) = sym (placed_sets l k (b ∷ []) (omega (arith, inside)))
 
 -- answers 0 and 1 are those that refuse nothing
-pub went_by_number : (a : Answer) (k : ℕ) → pick (ltb (row_of a).number 2) (k + 1) k ≡ k + pick (not (row_of a).refuses) 1 0
+went_by_number : (a : Answer) → from_bool (ltb (row_of a).number 2) ≡ pick (not (row_of a).refuses) 1 0
 unfolding pick
-went_by_number Taken k = refl
-went_by_number Raised k = refl
-went_by_number OutOfStep k = sym (add-zero k)
-went_by_number WrongSlot k = sym (add-zero k)
-went_by_number Malformed k = sym (add-zero k)
-went_by_number Impossible k = sym (add-zero k)
-went_by_number TooLong k = sym (add-zero k)
+went_by_number Taken = refl
+went_by_number Raised = refl
+went_by_number OutOfStep = refl
+went_by_number WrongSlot = refl
+went_by_number Malformed = refl
+went_by_number Impossible = refl
+went_by_number TooLong = refl
 
 -- ---- The record moved
 
@@ -169,7 +169,7 @@ module _ (l : List ℕ) (t t₂ : Tapes) (l₁ out l₂ : List ℕ) (small : Oct
       → ends_block (at_rest c.port.phase) (given_before c.port.phase) (length bytes) ≡ true
       → let n = given_before c.port.phase in let k = length bytes - 1 in let g = placed (staging_of l) n (take k bytes) in
       length g ≡ body_size → l₁ ≡ placed (take 146 l ++ g) phase_at (phase_bytes (Taking (n + k)))
-      → Served l₁ t (2 ∷ get_or bytes k 0 ∷ []) out l₂ t₂ → r ≡ pick (ltb (get_or out 0 0) 2) (k + 1) k
+      → Served l₁ t (2 ∷ get_or bytes k 0 ∷ []) out l₂ t₂ → r ≡ k + from_bool (ltb (get_or out 0 0) 2)
       → ServedMany (λ k l h l'. GivesOver k l bytes h l') l t r out l₂ t₂
   unfolding pick given_ahead
   given_served bytes r writing ends long is served count =
@@ -193,7 +193,7 @@ module _ (l : List ℕ) (t t₂ : Tapes) (l₁ out l₂ : List ℕ) (small : Oct
             given_completed c lent₀ (lent_with g t) (lent_with served.staging t₂) (record { count = k; last = last })
             (record { count = pick (went_in turn) 1 0; last = turn }) refl (sizes g long) (sizes' g served.staging long served.sized.staging) bytes
             first second (omega (arith, all.two));
-        count = count ∙ ap (λ (o : List ℕ). pick (ltb (get_or o 0 0) 2) (k + 1) k) served.result ∙ went_by_number turn.answer k;
+        count = count ∙ ap (λ (o : List ℕ). k + from_bool (ltb (get_or o 0 0) 2)) served.result ∙ ap (λ (x : ℕ). k + x) (went_by_number turn.answer);
         result = served.result;
         left = served.left;
         sized = served.sized;

@@ -1,10 +1,10 @@
-// What C and Rust link.
+// What C and Rust link: numbers for answers, and four tapes one beside the other, as C has them.
 ghost use Rattle.std.specs.Prelude.{◌≡◌};
 ghost use Rattle.layout.specs.Written.{record_size};
 ghost use Rattle.board.specs.Serve.{tapes, Serves, Gives, Takes, Freshens, Shows};
 
 use crate::judge::holds;
-use crate::many::{serve_given, serve_taken};
+use crate::many::{Given, Taken, serve_many};
 use crate::result::{lines_bytes, no_record};
 use crate::serve::serve;
 use crate::{LINES, RESULT};
@@ -84,7 +84,7 @@ pub extern "C" fn glenoulty_give(
         tape3,
     };
     if is_record(buffer) {
-        return serve_given(buffer, &mut tapes, bytes, res);
+        return serve_many(buffer, &mut tapes, &mut Given { bytes }, res);
     }
     *res = no_record();
     0
@@ -113,7 +113,7 @@ pub extern "C" fn glenoulty_take(
         tape3,
     };
     if is_record(buffer) {
-        return serve_taken(buffer, &mut tapes, bytes, res);
+        return serve_many(buffer, &mut tapes, &mut Taken { bytes }, res);
     }
     *res = no_record();
     0

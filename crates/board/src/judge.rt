@@ -14,14 +14,12 @@ pub(crate) fn possible_in(buffer: &[u8]) -> bool
     ensures { result ≡ possible (core_of buffer.now) }
 {
     let port = port_in(buffer);
-    let phase = port.phase;
-    let i = port.selected;
-    let place = possible_at(phase, drive_in(buffer, i));
+    let place = possible_at(port.phase, drive_in(buffer, port.selected));
     let drive0 = possible_drive(drive_in(buffer, 0));
     let drive1 = possible_drive(drive_in(buffer, 1));
     let drive2 = possible_drive(drive_in(buffer, 2));
     let drive3 = possible_drive(drive_in(buffer, 3));
-    (i <= LAST_DRIVE) & (place & (drive0 & (drive1 & (drive2 & drive3))))
+    (port.selected <= LAST_DRIVE) & (place & (drive0 & (drive1 & (drive2 & drive3))))
 }
 
 // Whether a buffer holds a possible record.

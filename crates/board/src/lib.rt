@@ -1,5 +1,5 @@
 // The unit for C and Rust: one event step on a record that lies as bytes in a lent buffer.
-#![tactic(auto)]
+#![tactic(auto, using(layout::proofs::Form::record_long))]
 
 mod exports;
 mod judge;

@@ -1,4 +1,5 @@
 // Calls on a buffer that is a record: what has to be read of it is read, and what a call changed is written back.
+// Each asks for a record: a ghost field beside the lent bytes would be owed again after each part that is written.
 ghost use Rattle.std.specs.Prelude.{◌≡◌, true, false, ◌∷◌, ◌++◌, length, take, is_some, unwrap_or};
 ghost use Rattle.basis.specs.Placed.{placed};
 ghost use Rattle.tape.specs.Record.{body_size};
@@ -63,12 +64,10 @@ pub(crate) fn serve(buffer: &mut [u8], tapes: &mut Tapes<'_>, event: &[u8]) -> [
     ensures same { Same tapes.old tapes.new }
 {
     let port = port_in(buffer);
-    let phase = port.phase;
-    let i = port.selected;
-    let drive = drive_in(buffer, i);
-    if let Some(inside) = within_block(phase, drive, tapes.of(i), event) {
+    let drive = drive_in(buffer, port.selected);
+    if let Some(inside) = within_block(port.phase, drive, tapes.of(port.selected), event) {
         if possible_in(buffer) & tapes.short() {
-            return move_on(buffer, phase, inside);
+            return move_on(buffer, port.phase, inside);
         }
     }
     serve_step(buffer, tapes, event)

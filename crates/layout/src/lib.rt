@@ -1,4 +1,4 @@
-// The unit's record as bytes: written, recognised and read.
+// The unit's record as bytes: written, recognised and read. Slices with their length asked for: what C lends is of any length until it was looked at.
 #![tactic(auto)]
 
 mod read;

@@ -16,6 +16,7 @@ fn is_phase(b: u8, n: usize) -> bool
     (b <= 3) & ((1 <= b) | (n == 0))
 }
 
+// No `TryFrom` here and below: `is_record` has looked at every byte before, and C has these numbers.
 fn mode_of(b: u8) -> Mode
     ensures { result ≡ mode_of b }
 {

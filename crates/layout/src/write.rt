@@ -23,6 +23,7 @@ pub fn flag(b: bool) -> u8
     u8::from(b)
 }
 
+// The number that C has for each.
 fn mode_byte(mode: Mode) -> u8
     ensures { result ≡ mode_byte mode }
 {

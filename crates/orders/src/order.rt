@@ -1,6 +1,6 @@
 // Commands: the codes, what each order needs, and the tests, of which the first that fits decides.
 ghost use Rattle.std.specs.Prelude.{◌≡◌};
-ghost use Rattle.rules.specs.Order.{order_of, needs, needs_of, in_sequence, illegal, has_room, fault_by};
+ghost use Rattle.rules.specs.Order.{order_of, needs_of, in_sequence, illegal, has_room, fault_by};
 
 use rules::{Drive, Fault, Mode, Needs, Order, WRITE_ROOM};
 use tape::{MARK_SIZE, has_room};
@@ -26,48 +26,79 @@ pub fn order_of(code: u8) -> Option<Order>
     }
 }
 
-// One row of needs.
-fn row(
-    known: bool,
-    status: bool,
-    writing: bool,
-    reading: bool,
-    online: bool,
-    cartridge: bool,
-    plug: bool,
-    room: usize,
-) -> Needs
-    ensures { result ≡ needs known status writing reading online cartridge plug room }
-{
-    Needs {
-        known,
-        status,
-        writing,
-        reading,
-        online,
-        cartridge,
-        plug,
-        room,
-    }
-}
+// The row of a code that nobody knows, and of an order that needs nothing.
+const UNKNOWN: Needs = Needs {
+    known: false,
+    status: false,
+    writing: false,
+    reading: false,
+    online: false,
+    cartridge: false,
+    plug: false,
+    room: 0,
+};
 
-// The columns: a known code; READ STATUS; Writing takes it; Reading takes it; ONLINE; a cartridge; an open plug; room.
+const FREE: Needs = Needs {
+    known: true,
+    status: false,
+    writing: false,
+    reading: false,
+    online: false,
+    cartridge: false,
+    plug: false,
+    room: 0,
+};
+
+// What each order needs beside a known code.
 pub fn needs_of(order: Option<Order>) -> Needs
     ensures { result ≡ needs_of order }
 {
     let Some(order) = order else {
-        return row(false, false, false, false, false, false, false, 0);
+        return UNKNOWN;
     };
     match order {
-        Order::Select(_) => row(true, false, false, false, false, false, false, 0),
-        Order::Bot => row(true, false, false, false, false, true, false, 0),
-        Order::Erase => row(true, false, false, false, false, true, true, 0),
-        Order::Initialize => row(true, false, false, false, false, true, false, 0),
-        Order::Write => row(true, false, false, false, true, true, true, WRITE_ROOM),
-        Order::WriteMark => row(true, false, true, false, true, true, true, MARK_SIZE),
-        Order::Read => row(true, false, false, false, true, true, false, 0),
-        Order::ReadMark => row(true, false, false, true, true, true, false, 0),
-        Order::ReadStatus => row(true, true, true, true, false, false, false, 0),
+        Order::Select(_) => FREE,
+        Order::Bot | Order::Initialize => Needs {
+            cartridge: true,
+            ..FREE
+        },
+        Order::Erase => Needs {
+            cartridge: true,
+            plug: true,
+            ..FREE
+        },
+        Order::Write => Needs {
+            online: true,
+            cartridge: true,
+            plug: true,
+            room: WRITE_ROOM,
+            ..FREE
+        },
+        Order::WriteMark => Needs {
+            writing: true,
+            online: true,
+            cartridge: true,
+            plug: true,
+            room: MARK_SIZE,
+            ..FREE
+        },
+        Order::Read => Needs {
+            online: true,
+            cartridge: true,
+            ..FREE
+        },
+        Order::ReadMark => Needs {
+            reading: true,
+            online: true,
+            cartridge: true,
+            ..FREE
+        },
+        Order::ReadStatus => Needs {
+            status: true,
+            writing: true,
+            reading: true,
+            ..FREE
+        },
     }
 }
 

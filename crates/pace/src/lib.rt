@@ -1,4 +1,4 @@
-// Loops over the step, for a program in C that takes their time.
+// Loops over the step, for a program in C that takes their time, and lends four tapes one beside the other.
 #![tactic(auto)]
 
 ghost use Rattle.std.specs.Prelude.{◌≡◌, length};
@@ -120,7 +120,8 @@ pub extern "C" fn pace_take(
     handed.last.core.port.selected
 }
 
-// The loop on a unit that holds its staging block: the loop is apart, so that the record is copied whole.
+// The loop on a unit that holds its staging block. Two loops of three lines each: one over a trait of both, with its two
+// impls and their ghost members, is longer than both.
 fn run_unit(whole: Unit, tapes: &mut Tapes<'_>, pairs: &[u8]) -> Unit
     ensures runs { RunsTo whole.core
         (lent_on whole.staging tapes.old)
@@ -130,7 +131,7 @@ fn run_unit(whole: Unit, tapes: &mut Tapes<'_>, pairs: &[u8]) -> Unit
 {
     let mut after = whole;
     for pair in pairs.chunks_exact(PAIR) {
-        after = unit::step(after, tapes, event_of(pair)).unit;
+        unit::step(&mut after, tapes, event_of(pair));
     }
     after
 }

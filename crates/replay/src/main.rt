@@ -23,13 +23,13 @@ struct Piece {
     ending: bool,
 }
 
-// Writes to standard output, or says why it cannot.
-fn write<R: Print + Eprint>(rt: &R, text: &[u8]) -> bool {
+// Writes to standard output, or says why it cannot; then nothing more is run.
+fn write<R: Print + Eprint>(rt: &R, text: &[u8]) -> Option<()> {
     match rt.write_all(text) {
-        Ok(()) => true,
+        Ok(()) => Some(()),
         Err(e) => {
             let _ = eprintln!(rt; "standard output: {e}");
-            false
+            None
         }
     }
 }
@@ -63,9 +63,7 @@ fn go_on<R: Input + Print + Eprint>(
     requires { (left.from ≤ left.to) × (left.to ≤ length input.old) }
     ensures { IfSome result (λ p. (p.from ≤ p.to) × (p.to ≤ length input.old)) }
 {
-    if !write(rt, lines) {
-        return None;
-    }
+    write(rt, lines)?;
     match halt {
         Halt::RoomOut => Some(left),
         Halt::InputOut => if left.ending {
@@ -130,7 +128,7 @@ fn main(rt: HostRuntime) {
     };
     let mut input = [0u8; PIECE];
     let mut out = [0u8; PIECE];
-    if write(&rt, b"tape unit, 4 drives\n") {
+    if write(&rt, b"tape unit, 4 drives\n").is_some() {
         let count = replay(&rt, &mut staging, &mut tapes, &mut input, &mut out);
         if let Err(e) = println!(rt; "{count} events") {
             let _ = eprintln!(rt; "standard output: {e}");

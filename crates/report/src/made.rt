@@ -48,8 +48,6 @@ pub fn octets(drive: Drive) -> [u8; OCTETS]
 {
     let latched = drive.latched;
     let rewound = drive.head == 0;
-    let errors = drive.errors;
-    let underruns = drive.underruns;
     // octet 1
     let por = bit(BIT_0, latched.por);
     let res_erm = bit(BIT_1, false);
@@ -73,9 +71,9 @@ pub fn octets(drive: Drive) -> [u8; OCTETS]
     [
         octet0,
         octet1,
-        high(errors),
-        low(errors),
-        high(underruns),
-        low(underruns),
+        high(drive.errors),
+        low(drive.errors),
+        high(drive.underruns),
+        low(drive.underruns),
     ]
 }

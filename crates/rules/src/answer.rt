@@ -2,7 +2,7 @@
 ghost use Rattle.std.specs.Prelude.{◌≡◌};
 ghost use Rattle.rules.specs.Answer.{row_of};
 
-use crate::unit::{Core, Unit};
+use crate::unit::Core;
 
 // Document 01's answers 0 to 6, in the order of their numbers.
 #[derive(Clone, Copy, Debug, PartialEq, Eq)]
@@ -46,16 +46,7 @@ pub struct Lines {
     pub direction: bool,
 }
 
-// What a step of the unit hands back.
-#[derive(Clone, Copy)]
-pub struct Outcome {
-    pub unit: Unit,
-    pub answer: Answer,
-    pub byte: Option<u8>,
-    pub lines: Lines,
-}
-
-// What a step hands back where the staging block is lent beside the tapes.
+// What a step hands back.
 #[derive(Clone, Copy)]
 pub struct Turn {
     pub core: Core,

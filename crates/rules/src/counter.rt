@@ -42,10 +42,10 @@ impl Counter for Errors {
     }
 
     fn count(drive: Drive) -> Drive {
-        let n = one_more(drive.errors.0);
-        let mut d = drive;
-        d.errors.0 = n;
-        d
+        Drive {
+            errors: Errors(one_more(drive.errors.0)),
+            ..drive
+        }
     }
 }
 
@@ -65,9 +65,9 @@ impl Counter for Underruns {
     }
 
     fn count(drive: Drive) -> Drive {
-        let n = one_more(drive.underruns.0);
-        let mut d = drive;
-        d.underruns.0 = n;
-        d
+        Drive {
+            underruns: Underruns(one_more(drive.underruns.0)),
+            ..drive
+        }
     }
 }

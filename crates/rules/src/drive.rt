@@ -11,6 +11,7 @@ pub enum Mode {
     Reading,
 }
 
+// Asked by a name each: the book has a word for both.
 impl Mode {
     pub fn is_writing(self) -> bool
         ensures { result ≡ is_writing self }
@@ -200,7 +201,7 @@ impl Drive {
         self.in_mode(Mode::Idle).latch(b)
     }
 
-    // Record made: the head past it.
+    // Record made: the head past it. Apart from `pass_to`, since the book has two rules here.
     pub fn made(self, next: usize) -> Drive
         ensures { result ≡ made next self }
     {

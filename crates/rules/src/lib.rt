@@ -9,7 +9,7 @@ mod order;
 mod phase;
 mod unit;
 
-pub use answer::{Answer, Lines, Outcome, Turn};
+pub use answer::{Answer, Lines, Turn};
 pub use counter::Counter;
 pub use drive::{Bit, Drive, Errors, Latched, Mode, Underruns};
 pub use event::{Act, Event, What};

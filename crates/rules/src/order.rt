@@ -37,7 +37,7 @@ pub enum Fault {
     Full,
 }
 
-// What the edge check leaves of the drive, and whether it raised EXCEPTION.
+// What the edge check leaves of the drive, and whether it raised EXCEPTION: the drive is there in both cases, so no `Result` tells them apart.
 #[derive(Clone, Copy)]
 pub struct Checked {
     pub raised: bool,

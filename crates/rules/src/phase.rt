@@ -30,7 +30,8 @@ impl Phase {
         self.at_rest() | self.is_status()
     }
 
-    // How many bytes of a block were given before, or taken; how many octets are outstanding. Each is 0 where there is none.
+    // How many bytes of a block were given before, or taken; how many octets are outstanding. Each is 0 where there is none, and no `Option`:
+    // a block that has not begun goes on at place 0. Three methods, since each reads another variant.
     pub fn given_before(self) -> usize
         ensures { result ≡ given_before self }
     {
@@ -49,7 +50,7 @@ impl Phase {
         if let Phase::Status(k) = self { k } else { 0 }
     }
 
-    // The four in their order.
+    // The four in their order: the byte that a record has for each, which C reads.
     pub fn which(self) -> u8
         ensures { result ≡ which_phase self }
     {

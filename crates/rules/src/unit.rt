@@ -8,6 +8,7 @@ use crate::drive::Drive;
 use crate::phase::Phase;
 use tape::BODY;
 
+// The selected drive is a byte and no enum: a record may hold any, and a number above 3 is answered 5.
 // Small enough that what a step hands back has 128 bytes: above that a copy is a call.
 #[derive(Clone, Copy)]
 pub struct Port {
@@ -17,6 +18,7 @@ pub struct Port {
     pub online: bool,
 }
 
+// Four fields and no array: a law of an array would have to ask how long it is.
 #[derive(Clone, Copy)]
 pub struct Core {
     pub port: Port,
@@ -32,7 +34,8 @@ pub struct Unit {
     pub staging: [u8; BODY],
 }
 
-// What an act of the selected drive leaves of the port and its record, and whether it raised EXCEPTION or handed out a byte.
+// What an act of the selected drive leaves of the port and its record, whether it raised EXCEPTION, and the byte that it handed out.
+// Raised or not, port and record are there: no `Result`.
 #[derive(Clone, Copy)]
 pub struct Moved {
     pub port: Port,
@@ -109,38 +112,40 @@ impl Core {
     pub fn drive(self, i: u8) -> Drive
         ensures { result ≡ drive_at self i }
     {
-        if i == 0 {
-            return self.drive0;
+        match i {
+            0 => self.drive0,
+            1 => self.drive1,
+            2 => self.drive2,
+            _ => self.drive3,
         }
-        if i == 1 {
-            return self.drive1;
-        }
-        if i == 2 {
-            return self.drive2;
-        }
-        self.drive3
     }
 
     // The port, and the record of one drive, put back.
     pub fn put(self, port: Port, i: u8, drive: Drive) -> Core
         ensures { result ≡ put_drive self port i drive }
     {
-        let mut c = self;
-        c.port = port;
-        if i == 0 {
-            c.drive0 = drive;
-            return c;
+        match i {
+            0 => Core {
+                port,
+                drive0: drive,
+                ..self
+            },
+            1 => Core {
+                port,
+                drive1: drive,
+                ..self
+            },
+            2 => Core {
+                port,
+                drive2: drive,
+                ..self
+            },
+            _ => Core {
+                port,
+                drive3: drive,
+                ..self
+            },
         }
-        if i == 1 {
-            c.drive1 = drive;
-            return c;
-        }
-        if i == 2 {
-            c.drive2 = drive;
-            return c;
-        }
-        c.drive3 = drive;
-        c
     }
 
     // RESET: drive 0 selected, Rest, each drive reset.

@@ -24,7 +24,7 @@ fn end_at(part: &mut [u8], n: usize)
     }
 }
 
-// A mark at the front of the part, and one 00 after it.
+// A mark at the front of the part, and one 00 after it. Apart from `put_block`: a block's kind and body are no one slice.
 fn put_mark(part: &mut [u8])
     requires { 1 ≤ length part.old }
     ensures { part.new ≡ put_in mark_record part.old }

@@ -60,7 +60,7 @@ fn fields(answer: Answer, lines: Lines, byte: Option<u8>) -> [u8; FIELDS]
     ]
 }
 
-// A line that has room, and the offset just past it.
+// A line that has room, and the offset just past it: in the whole buffer and no part, since every byte of it is promised.
 pub(crate) fn put_line(
     out: &mut [u8],
     at: usize,

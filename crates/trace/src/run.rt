@@ -31,7 +31,7 @@ pub struct Played {
     pub halt: Halt,
 }
 
-// What one event leaves: the core, the bytes of output written, whether reading stops.
+// What one event leaves: the core, the bytes of output written, whether reading stops; the other two are there in both cases.
 #[derive(Clone, Copy)]
 struct Answered {
     core: Core,
@@ -105,6 +105,7 @@ pub fn play(
     let mut used: usize = 0;
     let mut written: usize = 0;
     let mut n = count;
+    // No `for`: how many bytes an event takes is known only at its turn.
     let halt = loop {
         let Some(size) = next_size(&input[used..], ending) else {
             break Halt::InputOut;

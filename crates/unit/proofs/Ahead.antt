@@ -1,5 +1,5 @@
 -- Bytes before the last of a block, each by the step, come to one copy.
-use Prim.Native.Nat.{ℕ, zero, suc, ◌+◌, ◌-◌, ◌<◌, ◌≤◌}
+use Prim.Native.Nat.{ℕ, zero, suc, ◌+◌, ◌<◌, ◌≤◌}
 use mathlib.Core.Path.{◌≡◌, refl, sym, ap, ap₂, subst, ◌∙◌}
 use mathlib.Core.Bool.{Bool, true, false, ◌&&◌, ◌||◌, false≢true}
 use mathlib.Core.List.{List, [], ◌∷◌}
@@ -10,7 +10,7 @@ use Rattle.std.specs.Prelude.{None, Some}
 use lib.ListN.{length, get_or, drop, set, length-set, length-drop}
 use lib.Seq.{sets, length-take-le}
 use lib.Dec.{ltb}
-use borrow.Author.Tests.{ltb-true, ltb-false}
+use borrow.Author.Tests.{ltb-true}
 use Rattle.basis.specs.Choice.{pick}
 use Rattle.basis.proofs.Choosing.{both, join}
 use Rattle.basis.proofs.Placing.{each, each_is, placed_sets}
@@ -58,11 +58,8 @@ ahead_some rest n want k is some =
     let begun = some_picked (rest || ltb 0 n) _ k is some in
     let in_block = some_picked (ltb n last_place) _ k begun.1 some in
     let lt = ltb-true n last_place in_block.0 in
-    go lt begun.0 (ltb want (last_place - n)) refl in_block.1
-  where
-    go : n < last_place → (rest || ltb 0 n) ≡ true → (f : Bool) → ltb want (last_place - n) ≡ f → k ≡ pick f want (last_place - n) → SomeAhead rest n want k
-    go lt b true f k-is = let few = ltb-true want (last_place - n) f in record { begun = b; within = omega (arith, k-is, few, lt); wanted = omega (arith, k-is) }
-    go lt b false f k-is = let many = ltb-false want (last_place - n) f in record { begun = b; within = omega (arith, k-is, lt); wanted = omega (arith, k-is, many) }
+    let least = in_block.1 in
+    record { begun = begun.0; within = omega (arith, least, lt); wanted = omega (arith, least) }
 
 -- ---- One after the other
 

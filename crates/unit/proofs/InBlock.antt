@@ -3,12 +3,12 @@ use Prim.Native.Nat.{ℕ, zero, suc, ◌+◌, ◌<◌}
 use mathlib.Core.Path.{◌≡◌, refl, sym, ap, ap₂, ◌∙◌}
 use mathlib.Core.Bool.{Bool, true, false, not, ◌&&◌, ◌||◌, false≢true}
 use mathlib.Core.List.{List}
-use Rattle.std.specs.Prelude.{Option, None, Some, is_some, unwrap_or, option_map}
+use Rattle.std.specs.Prelude.{Option, None, Some, is_some, unwrap_or, option_map, option_and_then}
+use Rattle.std.specs.Bool.{then_some}
 use native.Mathlib.Nat.{not-suc-le-zero}
 use lib.ListN.{length, get_or}
 use lib.Dec.{ltb, eqb}
 use borrow.Author.Tests.{lt-ltb, ltb-true, eqb-true}
-use Rattle.std.specs.Prelude.{Option, Some}
 use Rattle.basis.specs.Choice.{pick}
 use Rattle.tape.specs.Record.{found_at}
 use Rattle.rules.specs.declared.drive.Drive.{Drive}
@@ -33,16 +33,14 @@ use Rattle.rules.specs.Effect.{hands}
 use Rattle.rules.specs.Bytes.{handed, octet_place, after_octet, octet_taken, byte_taken}
 use Rattle.rules.specs.Event.{bare_event, bodied_event, event_of}
 use Rattle.rules.specs.Step.{staged, staged_in, seat_of, stepped, done, taken_turn, landed, Steps}
-use Rattle.basis.proofs.Choosing.{both, join, choice_by}
+use Rattle.basis.proofs.Choosing.{both, choice_by}
 use Rattle.rules.proofs.Places.{put_back, tape_back}
 use Rattle.rules.proofs.Handing.{taken_at, may_take, taken_is}
 use Rattle.port.proofs.Whole.{is_block_lem}
 use Rattle.unit.specs.declared.within.Inside.{Inside}
-use Rattle.answers.specs.declared.looks.Seen.{Seen}
-use Rattle.answers.specs.Looks.{look_of}
-use Rattle.unit.specs.Within.{next_of, PhaseMoves, given_inside, taken_inside, inside_of, InsideSteps}
+use Rattle.unit.specs.Within.{next_of, PhaseMoves, given_inside, taken_inside, next_inside, inside_of, InsideSteps}
 use Rattle.answers.specs.Moved.{moved_on}
-use Rattle.answers.specs.Place.{within, only_at, given_place, taken_place, octets_left, body_of}
+use Rattle.answers.specs.Place.{within, is_given, is_taken, given_place, taken_place, octets_left}
 use Rattle.answers.specs.Settled.{settled_by}
 use Rattle.unit.proofs.Settling.{steps_by}
 
@@ -67,26 +65,21 @@ unfolding pick lines_of
 lines_known c ph b direction e =
     ap (λ (x : Lines). record { answer = Taken; byte = b; lines = x; core = moved_to c ph }) (sym e)
 
--- what was looked for and found tells the length and the kind
-only_there : (size kind found : ℕ) (l : List ℕ) → 0 < only_at size kind found l
-    → (length l ≡ size) × ((get_or l 0 0 ≡ kind) × (only_at size kind found l ≡ found))
-unfolding pick only_at
-only_there size kind found l some = go (eqb (length l) size) (eqb (get_or l 0 0) kind) refl refl
-  where
-    go : (long first : Bool) → eqb (length l) size ≡ long → eqb (get_or l 0 0) kind ≡ first
-        → (length l ≡ size) × ((get_or l 0 0 ≡ kind) × (only_at size kind found l ≡ found))
-    go true true p q = (eqb-true (length l) size p, (eqb-true (get_or l 0 0) kind q, rw (p, q) refl))
-    go true false p q = absurd (not-suc-le-zero (rw (p, q) at some))
-    go false first p q = absurd (not-suc-le-zero (rw (p) at some))
+-- what there is is one thing, and not none
+none_some : {A : Type 0} {x : A} → None ≡ Some x → ⊥
+none_some e = false≢true (ap is_some e)
 
--- a place that is found is not the last, and is the one looked for
-within_there : (n : ℕ) → 0 < within n → (within n ≡ n) × (n < last_place)
-unfolding pick within
-within_there n some = go (ltb n last_place) refl some
-  where
-    go : (b : Bool) → ltb n last_place ≡ b → 0 < pick b n 0 → (pick b n 0 ≡ n) × (n < last_place)
-    go true e h = (refl, ltb-true n last_place e)
-    go false e h = absurd (not-suc-le-zero h)
+some_same : {A : Type 0} {x y : A} → Some x ≡ Some y → x ≡ y
+some_same {A} {x} {y} e = ap (λ (o : Option A). unwrap_or o x) e
+
+-- what is there where a test holds: the test held, and it is the one
+shown : {A : Type 0} (b : Bool) {x y : A} → then_some b x ≡ Some y → (b ≡ true) × (x ≡ y)
+shown true e = (refl, some_same e)
+shown false e = absurd (none_some e)
+
+-- an event of a size whose first byte is its kind
+formed : (size kind : ℕ) (l : List ℕ) → (eqb (length l) size && eqb (get_or l 0 0) kind) ≡ true → (length l ≡ size) × (get_or l 0 0 ≡ kind)
+formed size kind l so = let two = both _ _ so in (eqb-true (length l) size two.0, eqb-true (get_or l 0 0) kind two.1)
 
 -- a count that is not 0 tells the phase
 given_taking : (ph : Phase) → 0 < given_before ph → ph ≡ Taking (given_before ph)
@@ -108,31 +101,43 @@ outstanding_status (Giving n) some = absurd (not-suc-le-zero some)
 outstanding_status (Status k) some = refl
 
 -- so the phase, the place and the event are known
-given_there : (ph : Phase) (l : List ℕ) (n : ℕ) → n ≡ given_place ph l → 0 < n → (ph ≡ Taking n) × (n < last_place)
-    × (event_of l ≡ Some (Own (Give (body_of l))))
-unfolding pick body_of event_of bodied_event
-given_there ph l n is some =
-    let there = only_there 2 2 (within (given_before ph)) l (rw (is) at some) in
-    let place = within_there (given_before ph) (rw (is ∙ there.1.1) at some) in
-    let here : given_before ph ≡ n = sym (is ∙ there.1.1 ∙ place.0) in
-    (rw (here) at (given_taking ph (rw (← here) at some)), rw (here) at place.1, rw (there.0, there.1.0) refl)
+given_there : (ph : Phase) (l : List ℕ) (n b : ℕ) → given_place ph l ≡ Some (n, b)
+    → (ph ≡ Taking n) × (n < last_place) × (event_of l ≡ Some (Own (Give b)))
+unfolding pick event_of bodied_event
+given_there ph l n b is =
+    let there = shown (is_given l && within (given_before ph)) is in
+    let two = both (is_given l) (within (given_before ph)) there.0 in
+    let form = formed 2 2 l two.0 in
+    let place = both (ltb 0 (given_before ph)) (ltb (given_before ph) last_place) two.1 in
+    let here : given_before ph ≡ n = ap (λ (p : ℕ × ℕ). p.0) there.1 in
+    let byte : get_or l 1 0 ≡ b = ap (λ (p : ℕ × ℕ). p.1) there.1 in (
+      rw (here) at (given_taking ph (ltb-true 0 _ place.0)),
+      rw (here) at (ltb-true (given_before ph) last_place place.1),
+      rw (form.0, form.1, byte) refl,
+    )
 
-take_there : (l : List ℕ) → length l ≡ 1 → get_or l 0 0 ≡ 3 → event_of l ≡ Some (Own Take)
+take_there : (l : List ℕ) → is_taken l ≡ true → event_of l ≡ Some (Own Take)
 unfolding pick event_of bare_event
-take_there l p q = rw (p, q) refl
+take_there l so = let form = formed 1 3 l so in rw (form.0, form.1) refl
 
-taken_there : (ph : Phase) (l : List ℕ) (n : ℕ) → n ≡ taken_place ph l → 0 < n → (ph ≡ Giving n) × (n < last_place) × (event_of l ≡ Some (Own Take))
-taken_there ph l n is some =
-    let there = only_there 1 3 (within (taken_before ph)) l (rw (is) at some) in
-    let place = within_there (taken_before ph) (rw (is ∙ there.1.1) at some) in
-    let here : taken_before ph ≡ n = sym (is ∙ there.1.1 ∙ place.0) in
-    (rw (here) at (taken_giving ph (rw (← here) at some)), rw (here) at place.1, take_there l there.0 there.1.0)
+taken_there : (ph : Phase) (l : List ℕ) (n : ℕ) → taken_place ph l ≡ Some n
+    → (ph ≡ Giving n) × (0 < n) × (n < last_place) × (event_of l ≡ Some (Own Take))
+taken_there ph l n is =
+    let there = shown (is_taken l && within (taken_before ph)) is in
+    let two = both (is_taken l) (within (taken_before ph)) there.0 in
+    let place = both (ltb 0 (taken_before ph)) (ltb (taken_before ph) last_place) two.1 in
+    let some = ltb-true 0 (taken_before ph) place.0 in (
+      rw (there.1) at (taken_giving ph some),
+      rw (there.1) at some,
+      rw (there.1) at (ltb-true (taken_before ph) last_place place.1),
+      take_there l two.0,
+    )
 
-octet_there : (ph : Phase) (l : List ℕ) (k : ℕ) → k ≡ octets_left ph l → 0 < k → (ph ≡ Status k) × (event_of l ≡ Some (Own Take))
-octet_there ph l k is some =
-    let there = only_there 1 3 (outstanding ph) l (rw (is) at some) in
-    let here : outstanding ph ≡ k = sym (is ∙ there.1.1) in
-    (rw (here) at (outstanding_status ph (rw (← here) at some)), take_there l there.0 there.1.0)
+octet_there : (ph : Phase) (l : List ℕ) (k : ℕ) → octets_left ph l ≡ Some k → (ph ≡ Status k) × (event_of l ≡ Some (Own Take))
+octet_there ph l k is =
+    let there = shown (is_taken l && ltb 0 (outstanding ph)) is in
+    let two = both (is_taken l) (ltb 0 (outstanding ph)) there.0 in
+    (rw (there.1) at (outstanding_status ph (ltb-true 0 (outstanding ph) two.1)), take_there l two.0)
 
 -- the lines within a block, by mode and EXCEPTION: of a drive that takes data, and of one that gives data
 abbrev lines : Bool → Bool → Bool → Lines
@@ -151,13 +156,6 @@ reading_lines Reading false so = refl
 reading_lines Reading true so = absurd (false≢true so)
 reading_lines Idle up so = absurd (false≢true so)
 reading_lines Writing up so = absurd (false≢true so)
-
--- what there is is one thing, and not none
-none_some : {A : Type 0} {x : A} → None ≡ Some x → ⊥
-none_some e = false≢true (ap is_some e)
-
-some_same : {A : Type 0} {x y : A} → Some x ≡ Some y → x ≡ y
-some_same {A} {x} {y} e = ap (λ (o : Option A). unwrap_or o x) e
 
 -- a byte that is there: the drive gives data, a whole block stands at its head, and the byte is of it
 next_there : (d : Drive) (t : List ℕ) (n b : ℕ) → next_of d t n ≡ Some b
@@ -210,39 +208,35 @@ pub giving_at : (n : ℕ) → 0 < n → Giving n ≡ taken_at n
 giving_at zero some = absurd (not-suc-le-zero some)
 giving_at (suc n) some = refl
 
--- found first by the step, where p and s tell whether the record is possible and the tapes are short
-module _ (c : Core) (l : Lent) (event : List ℕ) (r : Turn) (p s : Bool) (ok : p ≡ possible c) (fits : s ≡ short l) where
-  calm : (p && s) ≡ true → (possible c && short l) ≡ true
-  calm so = ap₂ ◌&&◌ (sym ok) (sym fits) ∙ so
+-- a world that is calm, by what was found of the record and the tapes
+pub calm_by : (c : Core) (l : Lent) {p s : Bool} → p ≡ possible c → s ≡ short l → (p && s) ≡ true → (possible c && short l) ≡ true
+calm_by c l ok fits so = ap₂ ◌&&◌ (sym ok) (sym fits) ∙ so
 
+-- found first by the step in such a world
+module _ (c : Core) (l : Lent) (event : List ℕ) (r : Turn) (calm : (possible c && short l) ≡ true) where
   -- a byte given within a block
-  pub given_steps : (g : List ℕ) (n : ℕ) (seen : Seen) → n ≡ given_place c.port.phase event → 0 < n
-      → seen ≡ look_of (drive_at c c.port.selected) → ((p && s) && seen.writes) ≡ true
-      → r ≡ moved_on c (Taking (n + 1)) None false → g ≡ staged c.port.phase (Give (body_of event)) l.staging
-      → Steps c l event r (put_staging l g)
-  given_steps g n seen is some looked so turn put =
-      let free = both (p && s) seen.writes so in
-      let writing : writes (drive_at c c.port.selected) ≡ true = ap (λ (x : Seen). x.writes) (sym looked) ∙ free.1 in
-      let place = given_there c.port.phase event n is some in
-      rw (turn, put) (byte_given_lem c l event (calm free.0) n (body_of event) (ap given_before place.0) place.1 (rw place.0 writing) writing place.2)
+  pub given_steps : (g : List ℕ) (n b : ℕ) → given_place c.port.phase event ≡ Some (n, b) → writes (drive_at c c.port.selected) ≡ true
+      → r ≡ moved_on c (Taking (n + 1)) None false → g ≡ staged c.port.phase (Give b) l.staging → Steps c l event r (put_staging l g)
+  given_steps g n b is writing turn put =
+      let place = given_there c.port.phase event n b is in
+      rw (turn, put) (byte_given_lem c l event calm n b (ap given_before place.0) place.1 (rw place.0 writing) writing place.2)
 
   -- a byte taken within a block
-  pub taken_steps : (n b : ℕ) → n ≡ taken_place c.port.phase event → 0 < n → (p && s) ≡ true
-      → next_of (drive_at c c.port.selected) (tape_at l c.port.selected) n ≡ Some b
+  pub taken_steps : (n b : ℕ) → taken_place c.port.phase event ≡ Some n → next_of (drive_at c c.port.selected) (tape_at l c.port.selected) n ≡ Some b
       → r ≡ moved_on c (Giving (n + 1)) (Some b) true → Steps c l event r l
-  taken_steps n b is some so byte turn =
-      let place = taken_there c.port.phase event n is some in
+  taken_steps n b is byte turn =
+      let place = taken_there c.port.phase event n is in
       let found = next_there _ _ n b byte in
-      rw (turn, found.1.1) (byte_taken_lem c l event (calm so) n (place.0 ∙ giving_at n some) place.1 found.0 found.1.0 place.2)
+      rw (turn, found.1.1) (byte_taken_lem c l event calm n (place.0 ∙ giving_at n place.1) place.2 found.0 found.1.0 place.3)
 
   -- an octet of a report
-  pub octet_steps : (k b : ℕ) (after : Core) → k ≡ octets_left c.port.phase event → 0 < k → (p && s) ≡ true
+  pub octet_steps : (k b : ℕ) (after : Core) → octets_left c.port.phase event ≡ Some k
       → r ≡ taken_turn false (Some b) after → b ≡ get_or c.port.octets (octet_place k) 0 → after ≡ moved_to c (after_octet k) → Steps c l event r l
   unfolding pick octet_taken
-  octet_steps k b after is some so turn byte moved =
-      let there = octet_there c.port.phase event k is some in
+  octet_steps k b after is turn byte moved =
+      let there = octet_there c.port.phase event k is in
       let moves = phase_moves c l Take (after_octet k) (Some b) (rw there.0 refl) (rw (there.0, byte) refl) in
-      settles c l event (calm so) r l (Some (Own Take)) there.1 (ap (λ (x : Turn). stepped x l) (turn ∙ ap (taken_turn false (Some b)) moved) ∙ moves)
+      settles c l event calm r l (Some (Own Take)) there.1 (ap (λ (x : Turn). stepped x l) (turn ∙ ap (taken_turn false (Some b)) moved) ∙ moves)
 
 -- what an event within a block comes to is the book's step
 module _ (c : Core) (l : Lent) (event : List ℕ) (calm : (possible c && short l) ≡ true) where
@@ -256,24 +250,23 @@ module _ (c : Core) (l : Lent) (event : List ℕ) (calm : (possible c && short l
   none_inside : StepsBy None
   none_inside i there = absurd (none_some there)
 
-  given_inside_lem : 0 < given_place c.port.phase event → writes Here ≡ true → StepsBy (Some (given_inside event (given_place c.port.phase event)))
-  given_inside_lem some writing i there =
-      rw (sym (some_same there))
-      (given_steps c l event _ (possible c) (short l) refl refl _ _ (look_of Here) refl some refl (join _ _ calm writing) refl refl)
+  given_inside_lem : (o : Option (ℕ × ℕ)) → given_place c.port.phase event ≡ o → writes Here ≡ true → StepsBy (option_map given_inside o)
+  given_inside_lem None is writing i there = none_inside i there
+  given_inside_lem (Some p) is writing i there =
+      rw (sym (some_same there)) (given_steps c l event _ calm _ p.0 p.1 is writing refl refl)
 
-  taken_inside_lem : 0 < taken_place c.port.phase event → StepsBy
-      (option_map (taken_inside (taken_place c.port.phase event)) (next_of Here (tape_at l c.port.selected) (taken_place c.port.phase event)))
-  taken_inside_lem some = go _ refl
-    where
-      go : (o : Option ℕ) → next_of Here (tape_at l c.port.selected) (taken_place c.port.phase event) ≡ o
-          → StepsBy (option_map (taken_inside (taken_place c.port.phase event)) o)
-      go None is i there = none_inside i there
-      go (Some b) is i there =
-          rw (sym (some_same there)) (taken_steps c l event _ (possible c) (short l) refl refl _ b refl some calm is refl)
+  byte_inside_lem : (n : ℕ) (o : Option ℕ) → taken_place c.port.phase event ≡ Some n → next_of Here (tape_at l c.port.selected) n ≡ o
+      → StepsBy (option_map (taken_inside n) o)
+  byte_inside_lem n None is byte i there = none_inside i there
+  byte_inside_lem n (Some b) is byte i there = rw (sym (some_same there)) (taken_steps c l event _ calm n b is byte refl)
+
+  taken_inside_lem : (o : Option ℕ) → taken_place c.port.phase event ≡ o
+      → StepsBy (option_and_then (next_inside Here (tape_at l c.port.selected)) o)
+  taken_inside_lem None is = none_inside
+  taken_inside_lem (Some n) is = byte_inside_lem n _ is refl
 
 pub inside_steps : InsideSteps
 unfolding inside_of
 inside_steps c l event i calm is =
     let P : Option Inside → Type 0 = StepsBy c l event calm in
-    choice_by P _ (λ so. let free = both _ _ so in given_inside_lem c l event calm (ltb-true _ _ free.0) free.1)
-    (λ so. choice_by P _ (λ more. taken_inside_lem c l event calm (ltb-true _ _ more)) (λ more. none_inside c l event calm)) i is
+    choice_by P _ (λ so. given_inside_lem c l event calm _ refl (both _ _ so).1) (λ so. taken_inside_lem c l event calm _ refl) i is

@@ -11,6 +11,7 @@ use lib.Seq.{length-take-le, drop-drop}
 use lib.Dec.{eqb}
 use Rattle.std.specs.Prelude.{Option, None, Some, is_some, option_to_list}
 use Rattle.std.specs.List.{cons_option}
+use Rattle.std.specs.Int.{from_bool}
 use borrow.Author.Tests.{eqb-true}
 use Rattle.basis.specs.Choice.{pick}
 use Rattle.basis.specs.Placed.{placed}
@@ -40,6 +41,12 @@ use Rattle.unit.proofs.Bytes.{byte_then_rest}
 use Rattle.unit.proofs.Demands.{demands_hold}
 use Rattle.unit.proofs.Handover.{up_to_on, up_to_ends, UnderWay, goes_on, stops, ends, Sizes, all_sizes_on, Standing}
 use Rattle.unit.proofs.Ahead.{renamed, given_glide, taken_glide, given_fits, taken_fits, taken_long}
+
+-- 1 where a test holds, else 0
+pub one_where : (b : Bool) → from_bool b ≡ pick b 1 0
+unfolding pick
+one_where true = refl
+one_where false = refl
 
 -- ---- The turns of a stretch
 

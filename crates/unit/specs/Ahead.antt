@@ -1,5 +1,5 @@
 -- Bytes that come before the last of a block: each moves the phase alone, so that many of them go by one copy.
-use Rattle.std.specs.Prelude.{ℕ, suc, ◌+◌, ◌-◌, ◌≤◌, ◌≡◌, Bool, true, false, ◌&&◌, ◌||◌, List, [], ◌∷◌, ◌++◌, length, take, drop, ltb, Option, None, Some, is_some}
+use Rattle.std.specs.Prelude.{ℕ, suc, ◌+◌, ◌-◌, ◌≤◌, ◌≡◌, Bool, true, false, ◌&&◌, ◌||◌, List, [], ◌∷◌, ◌++◌, length, take, drop, ltb, min, Option, None, Some, is_some}
 use Rattle.basis.specs.Choice.{pick}
 use Rattle.basis.specs.Placed.{placed}
 use Rattle.tape.specs.Record.{found_at}
@@ -25,7 +25,7 @@ use Rattle.unit.specs.Handover.{is_zero, up_to, went_in, went_out, count_of, las
 -- Of so many bytes, those before the last of a block in which n went over; at Rest a block begins.
 unfoldable pub ahead_of : Bool → ℕ → ℕ → ℕ
 ahead_of rest n want =
-    pick (rest || ltb 0 n) (pick (ltb n last_place) (pick (ltb want (last_place - n)) want (last_place - n)) 0) 0
+    pick (rest || ltb 0 n) (pick (ltb n last_place) (min want (last_place - n)) 0) 0
 
 -- Given to a drive that writes; `calm` says that the record is possible and no tape too long.
 unfoldable pub given_ahead : Core → Bool → ℕ → ℕ

@@ -1,7 +1,6 @@
 pub mod Tapes
 pub mod Own
 pub mod Within
-pub mod Turn
 pub mod Handover
 pub mod Ahead
 pub mod Demands

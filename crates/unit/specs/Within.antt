@@ -1,5 +1,5 @@
 -- A byte within a block, and an octet of a report: nothing of the record changes but the phase.
-use Rattle.std.specs.Prelude.{ℕ, ◌+◌, ◌≡◌, Bool, true, false, ◌&&◌, List, get_or, ltb, Some, Option, None, is_some, option_map}
+use Rattle.std.specs.Prelude.{ℕ, ◌+◌, ◌≡◌, true, false, ◌&&◌, List, get_or, Some, Option, None, is_some, option_map, option_and_then}
 use Rattle.basis.specs.Choice.{pick}
 use Rattle.tape.specs.Record.{found_at}
 use Rattle.rules.specs.declared.drive.Drive.{Drive}
@@ -16,7 +16,7 @@ use Rattle.rules.specs.Edge.{is_block}
 use Rattle.rules.specs.Effect.{acted}
 use Rattle.rules.specs.Step.{act, seat_of, staged_in, stepped, taken_turn, Steps}
 use Rattle.answers.specs.Moved.{moved_on}
-use Rattle.answers.specs.Place.{given_place, taken_place, body_of}
+use Rattle.answers.specs.Place.{given_place, taken_place}
 use Rattle.answers.specs.Settled.{settled_by}
 use Rattle.unit.specs.declared.within.Inside.{Inside}
 
@@ -29,19 +29,20 @@ next_of d t n =
 abbrev pub in_block : Act → Phase → Option ℕ → Inside
 in_block a ph byte = record { act = a; phase = ph; byte = byte }
 
--- Given to a drive that writes, or taken from one that has a byte there.
-abbrev pub given_inside : List ℕ → ℕ → Inside
-given_inside event n = in_block (Give (body_of event)) (Taking (n + 1)) None
+-- Given to a drive that writes, place and byte; or taken from one that has a byte there.
+abbrev pub given_inside : ℕ × ℕ → Inside
+given_inside p = in_block (Give p.1) (Taking (p.0 + 1)) None
 
 abbrev pub taken_inside : ℕ → ℕ → Inside
 taken_inside n b = in_block Take (Giving (n + 1)) (Some b)
 
 abbrev pub next_inside : Drive → List ℕ → ℕ → Option Inside
-next_inside d t n = pick (ltb 0 n) (option_map (taken_inside n) (next_of d t n)) None
+next_inside d t n = option_map (taken_inside n) (next_of d t n)
 
 unfoldable pub inside_of : Phase → Drive → List ℕ → List ℕ → Option Inside
 inside_of ph d t event =
-    pick (ltb 0 (given_place ph event) && writes d) (Some (given_inside event (given_place ph event))) (next_inside d t (taken_place ph event))
+    pick (is_some (given_place ph event) && writes d) (option_map given_inside (given_place ph event))
+    (option_and_then (next_inside d t) (taken_place ph event))
 
 -- IT IS THE BOOK'S STEP in a possible record with short tapes, with a byte given in the staging block.
 abbrev pub InsideSteps : Type 0

@@ -29,8 +29,7 @@ fn ahead_of(rest: bool, n: usize, want: usize) -> usize
 {
     if rest | (0 < n) {
         if n < LAST_PLACE {
-            let room = LAST_PLACE - n;
-            return if want < room { want } else { room };
+            return want.min(LAST_PLACE - n);
         }
     }
     0
@@ -40,27 +39,26 @@ fn ahead_of(rest: bool, n: usize, want: usize) -> usize
 fn given_ahead(core: Core, calm: bool, want: usize) -> usize
     ensures { result ≡ given_ahead core calm want }
 {
-    let port = core.port;
-    let phase = port.phase;
-    if calm & look(core, port.selected).writes {
+    let phase = core.port.phase;
+    if calm & look(core, core.port.selected).writes {
         return ahead_of(phase.at_rest(), phase.given_before(), want);
     }
     0
 }
 
 // Bytes of the whole block at the head of a drive that reads, copied to the buffer from an offset on; how many.
+// An offset and no part, here and below: every byte of the whole buffer is promised.
 fn read_ahead(drive: Drive, tape: &[u8], phase: Phase, out: &mut [u8], at: usize) -> usize
     requires { at ≤ length out.old }
     ensures { (result ≡ read_ahead drive tape.now phase (length out.old - at))
         × (out.new ≡ placed out.old at (next_bytes drive tape.now phase result)) }
 {
-    let head = drive.head;
     if drive.reads() {
-        if is_block(found_at(tape, head)) {
+        if is_block(found_at(tape, drive.head)) {
             let n = phase.taken_before();
             let k = ahead_of(phase.at_rest(), n, out.len() - at);
             if 0 < k {
-                let from = head + 1 + n;
+                let from = drive.head + 1 + n;
                 let end = from + k;
                 put(out, at, &tape[from..end]);
                 return k;
@@ -91,17 +89,10 @@ fn taken_ahead(core: Core, calm: bool, tapes: &Tapes<'_>, out: &mut [u8], at: us
     0
 }
 
-// 1 where a byte went over, else 0.
-fn one_if(went: bool) -> usize
-    ensures { result ≡ pick went 1 0 }
-{
-    if went { 1 } else { 0 }
-}
-
 fn answered_0(answer: Answer) -> bool
     ensures { result ≡ eqb (row_of answer).number 0 }
 {
-    answer.number() == 0
+    matches!(answer, Answer::Taken)
 }
 
 // Some of the bytes, by one copy or by one step.
@@ -116,9 +107,7 @@ fn give_some(core: Core, staging: &mut [u8], tapes: &mut Tapes<'_>, bytes: &[u8]
     let calm = possible(core) & tapes.short();
     let k = given_ahead(core, calm, bytes.len());
     if 0 < k {
-        let port = core.port;
-        let phase = port.phase;
-        let n = phase.given_before();
+        let n = core.port.phase.given_before();
         put(staging, n, &bytes[0..k]);
         return Handed {
             count: k,
@@ -128,7 +117,7 @@ fn give_some(core: Core, staging: &mut [u8], tapes: &mut Tapes<'_>, bytes: &[u8]
     let event = [GIVEN, bytes[0]];
     let last = step_lent(core, staging, tapes, &event);
     Handed {
-        count: one_if(!last.answer.refuses()),
+        count: usize::from(!last.answer.refuses()),
         last,
     }
 }
@@ -144,6 +133,7 @@ pub fn give_bytes(core: Core, staging: &mut [u8], tapes: &mut Tapes<'_>, bytes: 
 {
     let mut count: usize = 0;
     let mut last = done(false, None, core);
+    // No `for`: how many bytes go at a time is known only at their turn.
     while count < bytes.len() {
         let some = give_some(last.core, staging, tapes, &bytes[count..]);
         count += some.count;
@@ -165,7 +155,8 @@ fn keep(out: &mut [u8], at: usize, byte: Option<u8>)
     }
 }
 
-// Some bytes into the buffer from an offset on, by one copy or by one step.
+// Some bytes into the buffer from an offset on, by one copy or by one step. Apart from `give_some`: those bytes are read, these are written,
+// and what is copied ahead is another thing.
 fn take_some(
     core: Core,
     staging: &mut [u8],
@@ -184,9 +175,7 @@ fn take_some(
     let calm = possible(core) & tapes.short();
     let k = taken_ahead(core, calm, tapes, out, at);
     if 0 < k {
-        let port = core.port;
-        let phase = port.phase;
-        let n = phase.taken_before();
+        let n = core.port.phase.taken_before();
         return Handed {
             count: k,
             last: moved_on(core, Phase::Giving(n + k), Some(out[at + k - 1]), true),
@@ -196,12 +185,13 @@ fn take_some(
     let last = step_lent(core, staging, tapes, &event);
     keep(out, at, last.byte);
     Handed {
-        count: one_if(last.byte.is_some()),
+        count: usize::from(last.byte.is_some()),
         last,
     }
 }
 
 // Bytes taken by the host one after the other, up to and with the first that is not answered 0.
+// Apart from `give_bytes`, as `take_some` is from `give_some`.
 pub fn take_bytes(core: Core, staging: &mut [u8], tapes: &mut Tapes<'_>, out: &mut [u8]) -> Handed
     requires { length staging.old ≡ body_size }
     ensures takes { TakesOver core
@@ -213,6 +203,7 @@ pub fn take_bytes(core: Core, staging: &mut [u8], tapes: &mut Tapes<'_>, out: &m
 {
     let mut count: usize = 0;
     let mut last = done(false, None, core);
+    // No `for`, as above.
     while count < out.len() {
         let some = take_some(last.core, staging, tapes, out, count);
         count += some.count;

@@ -3,15 +3,14 @@ ghost use Rattle.std.specs.Prelude.{◌≡◌, length};
 ghost use Rattle.tape.specs.Record.{body_size};
 ghost use Rattle.unit.specs.Own.{own_turn, own_by};
 
-use answers::{done, in_step, refusal_by, refuse, unless};
-use port::{act, stage};
+use answers::{Sound, done, in_step, refusal_by, refuse, unless};
+use port::{At, act, stage};
 use rules::{Act, Answer, Core, Drive, Turn};
 
 // Refused, or a byte given staged first and then the act: nothing is in reach but this drive's tape.
 pub(crate) fn act_on(
     core: Core,
-    possible: bool,
-    short: bool,
+    sound: Sound,
     drive: Drive,
     staging: &mut [u8],
     tape: &mut [u8],
@@ -19,17 +18,16 @@ pub(crate) fn act_on(
 ) -> Turn
     requires { length staging.old ≡ body_size }
     ensures { own_turn result staging.new tape.new
-        ≡ own_by core possible short drive staging.old tape.old a }
+        ≡ own_by core sound.possible sound.short drive staging.old tape.old a }
 {
     let port = core.port;
-    let phase = port.phase;
-    let fits = in_step(phase, drive.writes(), drive.reads(), a);
-    let answer = refusal_by(possible, short, unless(fits, Answer::OutOfStep));
+    let fits = in_step(port.phase, drive.writes(), drive.reads(), a);
+    let answer = refusal_by(sound, unless(fits, Answer::OutOfStep));
     if answer.refuses() {
         return refuse(answer, core);
     }
-    stage(staging, phase, a);
-    let moved = act(port, staging, drive, tape, a);
+    stage(staging, port.phase, a);
+    let moved = act(At { port, drive }, staging, tape, a);
     let whole = core.put(moved.port, port.selected, moved.drive);
     done(moved.raised, moved.byte, whole)
 }

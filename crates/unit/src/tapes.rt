@@ -5,7 +5,7 @@ ghost use Rattle.unit.specs.Tapes.{tape_of, lent_on};
 
 use answers::short;
 
-// Each is lent from where it stands.
+// Each is lent from where it stands. Four fields and no array: a law of an array would have to ask how long it is.
 #[derive(Drop)]
 pub struct Tapes<'a> {
     pub tape0: &'a mut [u8],

@@ -13,8 +13,8 @@ loop-pair-preserved c =
     let same = c.step.ensures.same in
     record {
       under_way =
-          loop_laws.goes_on at.under_way c.step.ensures.step (pairs_cut _ _ _ _ steps.1.0 (steps.1.1 ∙ at.by_two) c.event_of.ensures)
-          (record { size0 = same.size0; size1 = same.size1; size2 = same.size2; size3 = same.size3 });
+          rw c.step.ensures.left (loop_laws.goes_on at.under_way c.step.ensures.step (pairs_cut _ _ _ _ steps.1.0 (steps.1.1 ∙ at.by_two) c.event_of.ensures)
+          (record { size0 = same.size0; size1 = same.size1; size2 = same.size2; size3 = same.size3 }));
       by_two = steps.0 ∙ at.by_two;
       same = same_on same at.same;
     }

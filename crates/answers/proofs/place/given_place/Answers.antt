@@ -1,10 +1,25 @@
--- A place that is found is within the block.
+-- Two bytes, of which the first is the kind; anything else is no byte given.
+use mathlib.Core.Path.{◌≡◌}
+use lib.ListN.{length, get_or}
 use native.Mathlib.Omega.{arith}
-use mathlib.Core.Path.{refl}
+use borrow.Author.Tests.{ne_eqb}
 use Rattle.answers.proofs.place.given_place.Goals as goal
 
-pub returns : goal.returns
-returns c = (
-  rw (c.only_at.ensures.value, c.within.ensures.0, c.given_before.ensures) refl,
-  omega (arith, c.only_at.ensures.upper_bound, c.within.ensures.1),
-)
+pub returns-in-2-clause-value : goal.returns-in-2-clause-value
+returns-in-2-clause-value c =
+    let l = c.args.event.now in
+    let size : length l ≡ 2 = omega arith in
+    let kind : get_or l 0 0 ≡ 2 = omega arith in
+    rw (c.then_some.ensures, c.within.ensures, c.given_before-n.ensures, size, kind)
+
+pub returns-in_default-clause-value : goal.returns-in_default-clause-value
+returns-in_default-clause-value c = rw (ne_eqb (length c.args.event.now) 2 (λ e. omega (arith, e)))
+
+pub returns-in_default-2-clause-value : goal.returns-in_default-2-clause-value
+returns-in_default-2-clause-value c =
+    let l = c.args.event.now in
+    let size : length l ≡ 2 = omega arith in
+    rw (size, ne_eqb (get_or l 0 0) 2 (λ e. omega (arith, e)))
+
+pub returns-in_default-3-clause-value : goal.returns-in_default-3-clause-value
+returns-in_default-3-clause-value c = rw (ne_eqb (length c.args.event.now) 2 (λ e. omega (arith, e)))

@@ -2,14 +2,14 @@ use Rattle.basis.specs.Tests.{tests}
 use Rattle.basis.specs.Choice.{pick}
 use Rattle.answers.proofs.refusal.refusal_by.Goals as goal
 
-pub returns-then-short : goal.returns-then-short
+pub returns-then-sound-2 : goal.returns-then-sound-2
 unfolding pick
-returns-then-short c = search tests
+returns-then-sound-2 c = search tests
 
-pub returns-else-short : goal.returns-else-short
+pub returns-else-sound-2 : goal.returns-else-sound-2
 unfolding pick
-returns-else-short c = search tests
+returns-else-sound-2 c = search tests
 
-pub returns-else-possible : goal.returns-else-possible
+pub returns-else-sound : goal.returns-else-sound
 unfolding pick
-returns-else-possible c = search tests
+returns-else-sound c = search tests

@@ -16,7 +16,7 @@ returns-then-refuses c =
     let a = c.args in
     λ l.
     ap (λ (x : Turn). stepped x l) c.refuse.ensures
-    ∙ refused_by a.core a.possible a.short (Some Reset) _ c.refusal_by-answer.ensures
+    ∙ refused_by a.core a.sound.possible a.sound.short (Some Reset) _ c.refusal_by-answer.ensures
     (told c.refuses.ensures c.if-refuses.true) l
 
 pub returns : goal.returns
@@ -24,5 +24,5 @@ returns c =
     let a = c.args in
     λ l.
     ap (λ (x : Turn). stepped x l) (c.done.ensures ∙ ap (λ (x : Core). taken_turn true None x) c.reset.ensures)
-    ∙ taken_by a.core a.possible a.short (Some Reset) _ c.refusal_by-answer.ensures
+    ∙ taken_by a.core a.sound.possible a.sound.short (Some Reset) _ c.refusal_by-answer.ensures
     (told c.refuses.ensures c.if-refuses.false) l

@@ -17,7 +17,7 @@ returns-then-refuses c =
     let answer = rw (c.slot_answer.ensures, c.look-loaded.ensures) at c.refusal_by-answer.ensures in
     λ l.
     ap (λ (x : Turn). stepped x l) c.refuse.ensures
-    ∙ refused_by a.core a.possible a.short (Some (Named a.i a.what)) _ answer
+    ∙ refused_by a.core a.sound.possible a.sound.short (Some (Named a.i a.what)) _ answer
     (told c.refuses.ensures c.if-refuses.true) l
 
 pub returns : goal.returns
@@ -27,5 +27,5 @@ returns c =
     let left = ap₂ (λ (x : Bool) (y : Core). taken_turn x None y) c.is_out.ensures c.befall.ensures in
     λ l.
     ap (λ (x : Turn). stepped x l) (c.done.ensures ∙ left)
-    ∙ taken_by a.core a.possible a.short (Some (Named a.i a.what)) _ answer
+    ∙ taken_by a.core a.sound.possible a.sound.short (Some (Named a.i a.what)) _ answer
     (told c.refuses.ensures c.if-refuses.false) l

@@ -12,17 +12,14 @@ use Rattle.basis.specs.Tests.{told}
 use Rattle.unit.proofs.Lending.{left_as}
 use Rattle.board.proofs.exports.glenoulty_give.Goals as goal
 
-pub serve_given-requires : goal.serve_given-requires
-serve_given-requires c = told c.is_record.ensures c.if-is_record.true
-
 pub returns-then-is_record : goal.returns-then-is_record
 returns-then-is_record c =
     let a = c.args in
     let served =
     λ (x y z w : List ℕ). ServedMany (λ (k : Core) (l : Lent) (h : Handed) (l' : Lent). GivesOver k l a.bytes.now h l') a.buffer.now (tapes a.tape0.now a.tape1.now a.tape2.now a.tape3.now)
-    c.serve_given.result c.serve_given.new.res c.serve_given.new.buffer (tapes x y z w) in
+    c.serve_many.result c.serve_many.new.res c.serve_many.new.buffer (tapes x y z w) in
     Gives.of_record (told c.is_record.ensures c.if-is_record.true)
-    (left_as served (search rules) (search rules) (search rules) (search rules) c.serve_given.ensures.served)
+    (left_as served (search rules) (search rules) (search rules) (search rules) c.serve_many.ensures.served)
 
 pub returns : goal.returns
 returns c =

@@ -8,10 +8,6 @@ use Rattle.basis.specs.Tests.{told}
 use Rattle.unit.proofs.Lending.{left_as}
 use Rattle.board.proofs.exports.glenoulty_step.Goals as goal
 
-pub serve-requires : goal.serve-requires
-serve-requires c =
-    told c.is_record.ensures c.if-is_record.true
-
 pub returns-then-is_record : goal.returns-then-is_record
 returns-then-is_record c =
     let a = c.args in

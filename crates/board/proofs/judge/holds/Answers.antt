@@ -1,12 +1,7 @@
 -- Only a record is asked whether it is possible.
-use Rattle.layout.proofs.Form.{record_long}
 use Rattle.board.specs.Serve.{holds}
 use Rattle.basis.specs.Tests.{told}
 use Rattle.board.proofs.judge.holds.Goals as goal
-
-pub possible_in-requires : goal.possible_in-requires
-possible_in-requires c =
-    record_long c.args.buffer.now (told c.is_record.ensures c.if-is_record.true)
 
 pub returns-then-is_record : goal.returns-then-is_record
 unfolding holds

@@ -1,23 +1,10 @@
 -- A byte within a block staged and its phase written where they stand; else the unit's step.
 use mathlib.Core.Path.{refl, sym, ◌∙◌}
 use Rattle.rules.specs.Refusal.{short}
-use Rattle.layout.proofs.Form.{record_long}
 use Rattle.board.specs.Serve.{tapes_of}
 use Rattle.board.proofs.InPlace.{byte_served}
 use borrow.Author.Rules.{rules}
 use Rattle.board.proofs.serve.serve.Goals as goal
-
-pub port_in-port-requires : goal.port_in-port-requires
-port_in-port-requires c = record_long c.args.buffer.now c.requires
-
-pub drive_in-drive-requires : goal.drive_in-drive-requires
-drive_in-drive-requires c = record_long c.args.buffer.now c.requires
-
-pub possible_in-requires : goal.possible_in-requires
-possible_in-requires c = record_long c.args.buffer.now c.requires
-
-pub move_on-requires : goal.move_on-requires
-move_on-requires c = record_long c.args.buffer.now c.requires
 
 pub returns-then-possible_in-short-clause-served : goal.returns-then-possible_in-short-clause-served
 unfolding short
@@ -29,6 +16,3 @@ returns-then-possible_in-short-clause-served c =
     byte_served a.buffer.now (tapes_of a.tapes.now) a.event.now _ _ _ _
     (λ i. search rules) c.requires calm (rw (c.drive_in-drive.ensures, c.of.ensures, port) at (sym c.within_block.ensures ∙ c.in-Some.is)) refl
     (rw (port) at moved.buffer_len) moved.value (rw (port) at moved.buffer_after)
-
-pub serve_step-requires : goal.serve_step-requires
-serve_step-requires c = c.requires

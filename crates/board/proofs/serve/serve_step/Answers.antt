@@ -1,22 +1,8 @@
 -- The unit's step on what the buffer holds, its staging block lent from where it stands.
 use mathlib.Core.Path.{◌∙◌}
-use native.Mathlib.Omega.{arith}
 use Rattle.layout.proofs.Form.{record_long}
-use Rattle.board.proofs.InPlace.{lent_part, part_long, back_long, back_staging}
+use Rattle.board.proofs.InPlace.{lent_part, part_long, back_staging}
 use Rattle.board.proofs.serve.serve_step.Goals as goal
-
-pub core_of-core-requires : goal.core_of-core-requires
-core_of-core-requires c = record_long c.args.buffer.now c.requires
-
-pub slice_bounds-step_lent-end : goal.slice_bounds-step_lent-end
-slice_bounds-step_lent-end c = omega (arith, record_long c.args.buffer.now c.requires)
-
-pub write_turn-requires : goal.write_turn-requires
-write_turn-requires c =
-    let l = c.args.buffer.now in
-    let g = c.step_lent-turn.new.staging in
-    let size = record_long l c.requires in
-    back_long l g size (c.step_lent-turn.auto.staging ∙ part_long l g size)
 
 pub returns-clause-served : goal.returns-clause-served
 returns-clause-served c =

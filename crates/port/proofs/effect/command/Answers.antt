@@ -9,7 +9,7 @@ pub carry_out-requires : goal.carry_out-requires
 carry_out-requires c =
     let a = c.args in
     let fine = told c.fault_of.ensures c.in-Ok.is in
-    rw (← c.needs_of.ensures) (fine_has_room a.port.online a.drive (length a.tape.now) _ fine)
+    rw (← c.needs_of.ensures) (fine_has_room a.at.port.online a.at.drive (length a.tape.now) _ fine)
 
 pub returns-in-Ok : goal.returns-in-Ok
 unfolding fault_of

@@ -19,6 +19,5 @@ returns c =
     rw (
       ← c.given_before-n.ensures,
       le-ltb _ _ c.if-n-lt-LAST_PLACE.false,
-      ← c.at_phase-2.ensures,
       c.store.ensures,
     )

@@ -4,23 +4,23 @@ use Rattle.rules.specs.Online.{dropped}
 use mathlib.Core.Path.{sym}
 use Rattle.port.proofs.online.drop_online.Goals as goal
 
-pub returns-then-port-drive : goal.returns-then-port-drive
+pub returns-then-at : goal.returns-then-at
 unfolding dropped
-returns-then-port-drive c =
+returns-then-at c =
     let a = c.args in
     rw (c.falls.ensures, c.in_mode.ensures)
-    (sym (with_exception a.port.online a.drive.exception a.drive.loaded _ _ _ c.if-port-drive.true))
+    (sym (with_exception a.at.port.online a.at.drive.exception a.at.drive.loaded _ _ _ c.if-at.true))
 
-pub returns-then-port-drive-2 : goal.returns-then-port-drive-2
+pub returns-then-at-2 : goal.returns-then-at-2
 unfolding dropped
-returns-then-port-drive-2 c =
+returns-then-at-2 c =
     let a = c.args in
     rw c.leave.ensures
-    (sym (with_cartridge a.port.online a.drive.exception a.drive.loaded _ _ _ c.if-port-drive.false c.if-port-drive-2.true))
+    (sym (with_cartridge a.at.port.online a.at.drive.exception a.at.drive.loaded _ _ _ c.if-at.false c.if-at-2.true))
 
 pub returns : goal.returns
 unfolding dropped
 returns c =
     let a = c.args in
     rw c.falls-2.ensures
-    (sym (with_neither a.port.online a.drive.exception a.drive.loaded _ _ _ c.if-port-drive.false c.if-port-drive-2.false))
+    (sym (with_neither a.at.port.online a.at.drive.exception a.at.drive.loaded _ _ _ c.if-at.false c.if-at-2.false))

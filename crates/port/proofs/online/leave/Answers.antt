@@ -8,10 +8,10 @@ pub returns-then-is_writing : goal.returns-then-is_writing
 returns-then-is_writing c =
     let a = c.args in
     c.leave_writing.ensures
-    ∙ leaving_writing (seat a.port a.drive a.tape.now) a.drive.mode (told c.is_writing.ensures c.if-is_writing.true)
+    ∙ leaving_writing (seat a.at.port a.at.drive a.tape.now) a.at.drive.mode (told c.is_writing.ensures c.if-is_writing.true)
 
 pub returns : goal.returns
 returns c =
     let a = c.args in
     rw (c.falls.ensures, c.rewind.ensures, c.in_mode.ensures)
-    (leaving_else (seat a.port a.drive a.tape.now) a.drive.mode (told c.is_writing.ensures c.if-is_writing.false))
+    (leaving_else (seat a.at.port a.at.drive a.tape.now) a.at.drive.mode (told c.is_writing.ensures c.if-is_writing.false))

@@ -13,12 +13,12 @@ returns-in-Some c =
     let a = c.args in
     let w = rw c.in-Some.is at
     c.record_mark.ensures in
-    let m = next_means a.tape.now a.drive.head mark_size 0 mark_record _ _ w in
+    let m = next_means a.tape.now a.at.drive.head mark_size 0 mark_record _ _ w in
     rw (
       c.falls.ensures,
       c.rewind.ensures,
       c.in_mode.ensures,
-      le-leb (a.drive.head + mark_room)
+      le-leb (a.at.drive.head + mark_room)
           (length a.tape.now) m.room,
       m.tape_is,
     )
@@ -28,5 +28,5 @@ unfolding pick
 returns-in-None c =
     let a = c.args in
     let w = rw c.in-None.is at c.record_mark.ensures in
-    let m = no_room_means a.tape.now a.drive.head mark_size 0 mark_record _ w in
-    rw (c.falls-in-None.ensures, c.stop.ensures, lt-leb (a.drive.head + mark_room) (length a.tape.now) m.full, m.tape_is)
+    let m = no_room_means a.tape.now a.at.drive.head mark_size 0 mark_record _ w in
+    rw (c.falls-in-None.ensures, c.stop.ensures, lt-leb (a.at.drive.head + mark_room) (length a.tape.now) m.full, m.tape_is)

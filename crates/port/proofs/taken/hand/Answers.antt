@@ -5,14 +5,13 @@ use Rattle.port.proofs.taken.hand.Goals as goal
 
 pub returns-then-n-lt-LAST_PLACE : goal.returns-then-n-lt-LAST_PLACE
 unfolding pick handed
-returns-then-n-lt-LAST_PLACE c = rw (c.hands.ensures, c.at_phase.ensures, lt-ltb _ _ c.if-n-lt-LAST_PLACE.true)
+returns-then-n-lt-LAST_PLACE c = rw (c.hands.ensures, lt-ltb _ _ c.if-n-lt-LAST_PLACE.true)
 
 pub returns : goal.returns
 unfolding pick handed
 returns c =
     rw (
       c.hands-2.ensures,
-      c.at_phase-2.ensures,
       ← c.pass_to.ensures,
       ← c.check-edge.ensures,
       le-ltb _ _

@@ -6,7 +6,7 @@ use Rattle.port.proofs.taken.take_first.Goals as goal
 pub hand-requires : goal.hand-requires
 hand-requires c =
     let a = c.args in
-    unraised a.tape.now a.drive (rw (← c.check-edge.ensures) c.if-edge.false)
+    unraised a.tape.now a.at.drive (rw (← c.check-edge.ensures) c.if-edge.false)
 
 pub returns-then-edge : goal.returns-then-edge
 unfolding pick

@@ -5,7 +5,7 @@ use Rattle.port.proofs.taken.take_next.Goals as goal
 pub hand-requires : goal.hand-requires
 hand-requires c =
     let a = c.args in
-    whole a.tape.now a.drive.head (rw (← c.found_at-found.ensures, ← c.is_block.ensures) c.if-is_block.true)
+    whole a.tape.now a.at.drive.head (rw (← c.found_at-found.ensures, ← c.is_block.ensures) c.if-is_block.true)
 
 pub returns-then-is_block : goal.returns-then-is_block
 unfolding pick

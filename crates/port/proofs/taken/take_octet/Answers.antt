@@ -6,7 +6,6 @@ unfolding octet_taken
 returns c =
     λ t. rw (
       c.hands.ensures,
-      c.at_phase.ensures,
       c.after_octet.ensures,
       c.next_octet.ensures,
     )

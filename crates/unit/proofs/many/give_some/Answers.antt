@@ -1,12 +1,12 @@
 -- A stretch by one copy, or one byte by the step.
 use Prim.Native.Nat.{◌-◌}
-use mathlib.Core.Path.{◌≡◌}
+use mathlib.Core.Path.{◌≡◌, ◌∙◌}
 use native.Mathlib.Omega.{arith}
 use lib.ListN.{length, length-take, length-drop}
 use Rattle.unit.specs.Tapes.{lent_on}
 use Rattle.rules.specs.Refusal.{short}
 use Rattle.unit.proofs.Ahead.{given_fits, given_within}
-use Rattle.unit.proofs.Legs.{given_leg, given_one}
+use Rattle.unit.proofs.Legs.{one_where, given_leg, given_one}
 use Rattle.unit.proofs.many.give_some.Goals as goal
 
 pub slice_bounds-put-end : goal.slice_bounds-put-end
@@ -42,4 +42,4 @@ pub returns-clause-gives : goal.returns-clause-gives
 returns-clause-gives c =
     let a = c.args in
     let l = lent_on a.staging.now a.tapes.now in
-    given_one a.core l a.bytes.now _ _ _ c.requires.1 c.step_lent-last.ensures.step (rw c.refuses.ensures at c.one_if.ensures)
+    given_one a.core l a.bytes.now _ _ _ c.requires.1 c.step_lent-last.ensures.step (rw c.refuses.ensures at (c.from.ensures ∙ one_where _))

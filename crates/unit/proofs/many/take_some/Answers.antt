@@ -6,7 +6,7 @@ use Rattle.basis.proofs.Placing.{placed_none}
 use Rattle.unit.specs.Tapes.{lent_on}
 use Rattle.rules.specs.Refusal.{short}
 use Rattle.unit.proofs.Ahead.{taken_fits, taken_within}
-use Rattle.unit.proofs.Legs.{taken_leg, taken_one}
+use Rattle.unit.proofs.Legs.{one_where, taken_leg, taken_one}
 use Rattle.unit.proofs.many.take_some.Goals as goal
 
 pub overflow_add-n : goal.overflow_add-n
@@ -53,5 +53,5 @@ returns-clause-takes c =
     let l = lent_on a.staging.now a.tapes.now in
     let none : c.taken_ahead-k.result ≡ 0 = omega (arith, c.if-k-gt0.false) in
     let same = rw (none) at c.taken_ahead-k.ensures.bytes ∙ placed_none a.out.now a.at in
-    taken_one a.core l a.out.now a.at _ _ _ _ c.requires.0 c.requires.1 c.step_lent-last.ensures.step (rw c.is_some.ensures at c.one_if.ensures)
+    taken_one a.core l a.out.now a.at _ _ _ _ c.requires.0 c.requires.1 c.step_lent-last.ensures.step (rw c.is_some.ensures at (c.from.ensures ∙ one_where _))
     (rw (same) at c.keep.ensures)

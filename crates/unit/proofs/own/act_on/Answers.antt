@@ -12,7 +12,7 @@ returns-then-refuses c =
     let answer = rw (c.unless.ensures, c.in_step-fits.ensures, c.reads.ensures, c.writes.ensures) at
     c.refusal_by-answer.ensures in
     ap (λ (x : Turn). own_turn x a.staging.now a.tape.now) c.refuse.ensures
-    ∙ own_refused a.core a.possible a.short a.drive a.staging.now a.tape.now a.a _ answer
+    ∙ own_refused a.core a.sound.possible a.sound.short a.drive a.staging.now a.tape.now a.a _ answer
     (told c.refuses.ensures c.if-refuses.true)
 
 pub shape_of-staging : goal.shape_of-staging
@@ -28,6 +28,6 @@ returns c =
       c.reads.ensures,
       c.writes.ensures,
     ) at c.refusal_by-answer.ensures in
-    own_lands a.core a.possible a.short a.drive a.staging.now a.tape.now a.a _ answer _ c.act-moved.result _ _ _
+    own_lands a.core a.sound.possible a.sound.short a.drive a.staging.now a.tape.now a.a _ answer _ c.act-moved.result _ _ _
     c.done.ensures c.put-whole.ensures c.act-moved.ensures c.stage.ensures
     (told c.refuses.ensures c.if-refuses.false)

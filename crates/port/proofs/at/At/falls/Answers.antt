@@ -1,4 +1,4 @@
-use Rattle.port.proofs.online.falls.Goals as goal
+use Rattle.port.proofs.at.At.falls.Goals as goal
 
 pub returns : goal.returns
 returns c = rw (c.leaves.ensures, c.at_level.ensures)

@@ -10,25 +10,18 @@ use Rattle.rules.specs.declared.unit.Port.{Port}
 use Rattle.rules.specs.Phase.{taken_before}
 use Rattle.layout.specs.Written.{phase_at, phase_bytes}
 use Rattle.layout.specs.Read.{core_of, staging_of}
-use Rattle.layout.proofs.Form.{record_long}
 use Rattle.board.specs.Serve.{tapes_of}
 use Rattle.board.proofs.Ended.{all_but_one, read_most, still_record, own_staging, staging_long, taken_served}
 use borrow.Author.Rules.{rules}
-use Rattle.board.proofs.many.complete_taken.Goals as goal
-
-pub drive_in-drive-requires : goal.drive_in-drive-requires
-drive_in-drive-requires c = record_long c.args.buffer.now c.requires.0
+use Rattle.board.proofs.many.TakenWay.complete.Goals as goal
 
 pub returns-then-k-eq0-clause-served : goal.returns-then-k-eq0-clause-served
-returns-then-k-eq0-clause-served c = let same = rw c.if-k-eq0.true at c.read_on-k.ensures.bytes ∙ placed_none _ 0 in rw (same) at c.take_all.ensures.served
+returns-then-k-eq0-clause-served c = let same = rw c.if-k-eq0.true at c.read_on-k.ensures.bytes ∙ placed_none _ 0 in rw (same) at c.serve_all.ensures.served
 
 pub overflow_add-taken_before : goal.overflow_add-taken_before
 overflow_add-taken_before c =
     let most = read_most _ _ _ _ _ c.requires.1.1.1 c.read_on-k.ensures.count (omega (arith, c.if-k-eq0.false)) in
     omega (arith, most, (all_but_one _ _ _ c.requires.1.1.1).place, c.taken_before.ensures)
-
-pub write_phase-requires : goal.write_phase-requires
-write_phase-requires c = record_long c.args.buffer.now c.requires.0
 
 pub serve_step-requires : goal.serve_step-requires
 serve_step-requires c =
@@ -61,5 +54,5 @@ returns-clause-served c =
     let kept = c.keep_last.ensures in
     let sizes = c.serve_step.ensures.same in
     taken_served l (tapes_of a.tapes.now) _ _ _ _ (λ i. search rules) pre.0
-    pre.1.0 (record { size0 = sizes.size0; size1 = sizes.size1; size2 = sizes.size2; size3 = sizes.size3 }) a.bytes.now front _ k _
+    pre.1.0 (record { size0 = sizes.size0; size1 = sizes.size1; size2 = sizes.size2; size3 = sizes.size3 }) a.self.now.bytes.now front _ k _
     (rw (port) at pre.1.1.1) took c.read_on-k.auto.out some is c.serve_step.ensures.served kept.1 kept.0
