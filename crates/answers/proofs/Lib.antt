@@ -1,3 +1,2 @@
-mod Tested
 pub mod Settling
 pub mod Outcomes

@@ -55,6 +55,7 @@ fn bodied_event(kind: u8, body: u8) -> Option<Event>
 }
 
 // A string of bytes of any length: a kind unknown, a length wrong or a drive body of another form is no event.
+// No `TryFrom`: what is no event is `None` in the book, and no error to name.
 pub fn event_of(event: &[u8]) -> Option<Event>
     ensures { result ≡ event_of event.now }
 {

@@ -5,7 +5,7 @@ ghost use Rattle.answers.specs.Looks.{look_of};
 
 use rules::{Core, Drive};
 
-// A cartridge in, and whether the drive takes data.
+// A cartridge in, and whether the drive takes data. Public, as docs/CONTRACTS.md has it.
 #[derive(Clone, Copy)]
 pub struct Seen {
     pub loaded: bool,

@@ -20,7 +20,7 @@ fn is_taken(event: &[u8]) -> bool
     matches!(event, [TAKEN])
 }
 
-// The place within a block of a byte given, and the byte.
+// The place within a block of a byte given, and the byte. A plain number with its bound promised: `next_of` of `unit` alone asks for it.
 pub fn given_place(phase: Phase, event: &[u8]) -> Option<(usize, u8)>
     ensures value { result ≡ given_place phase event.now }
     ensures bound { IfSome result (λ p. p.0 < last_place) }

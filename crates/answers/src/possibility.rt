@@ -12,12 +12,9 @@ fn mode_fits(mode: Mode, loaded: bool, protected: bool) -> bool
     ensures { result ≡ mode_fits mode loaded protected }
 {
     if loaded {
-        return !(protected & mode.is_writing());
-    }
-    match mode {
-        Mode::Idle => !protected,
-        Mode::Writing => false,
-        Mode::Reading => false,
+        !(protected & mode.is_writing())
+    } else {
+        matches!(mode, Mode::Idle) & !protected
     }
 }
 
@@ -25,10 +22,7 @@ fn mode_fits(mode: Mode, loaded: bool, protected: bool) -> bool
 fn late_fits(mode: Mode, late: u8) -> bool
     ensures { result ≡ late_fits mode late }
 {
-    if late == 0 {
-        return true;
-    }
-    mode.is_writing() & (late <= LATE_BLOCKS)
+    late == 0 || (mode.is_writing() & (late <= LATE_BLOCKS))
 }
 
 // A head above the longest tape is impossible.
@@ -40,22 +34,15 @@ pub fn possible_drive(drive: Drive) -> bool
 }
 
 // A part block given needs the selected drive Writing, taken needs it Reading; octets outstanding are 1 to 6.
-fn possible_phase(phase: Phase, mode: Mode) -> bool
-    ensures { result ≡ possible_phase phase mode }
-{
-    match phase {
-        Phase::Rest => true,
-        Phase::Taking(n) => (1 <= n) & ((n <= LAST_PLACE) & mode.is_writing()),
-        Phase::Giving(n) => (1 <= n) & ((n <= LAST_PLACE) & mode.is_reading()),
-        Phase::Status(k) => (1 <= k) & (k <= OCTETS),
-    }
-}
-
-// The same beside a drive's whole record.
 pub fn possible_at(phase: Phase, drive: Drive) -> bool
     ensures { result ≡ possible_phase phase drive.mode }
 {
-    possible_phase(phase, drive.mode)
+    match phase {
+        Phase::Rest => true,
+        Phase::Taking(n) => (1 <= n) & ((n <= LAST_PLACE) & drive.mode.is_writing()),
+        Phase::Giving(n) => (1 <= n) & ((n <= LAST_PLACE) & drive.mode.is_reading()),
+        Phase::Status(k) => (1 <= k) & (k <= OCTETS),
+    }
 }
 
 // The phase beside the selected drive.

@@ -8,14 +8,15 @@ ghost use Rattle.rules.specs.Refusal.{takes, gives, in_step, slot_answer, refusa
 use rules::{Act, Answer, Phase, What};
 use tape::LONGEST;
 
-// 6: none of the four lent tapes is longer than the longest.
+// 6: none of the four lent tapes is longer than the longest. Four lengths and no array, as `Tapes` has four fields.
 pub fn short(tape0: usize, tape1: usize, tape2: usize, tape3: usize) -> bool
     ensures { result ≡ (leb tape0 longest && (leb tape1 longest && (leb tape2 longest && leb tape3 longest))) }
 {
     (tape0 <= LONGEST) & ((tape1 <= LONGEST) & ((tape2 <= LONGEST) & (tape3 <= LONGEST)))
 }
 
-// What 5 and 6 go by: whether the record is possible, and whether the four lent tapes are short.
+// What 5 and 6 go by: whether the record is possible, and whether the four lent tapes are short. Handed on beside the core that it was
+// found of, which goes by value.
 #[derive(Clone, Copy)]
 pub struct Sound {
     pub possible: bool,
@@ -54,15 +55,14 @@ pub fn in_step(phase: Phase, writing: bool, reading: bool, a: Act) -> bool
     ensures { result ≡ in_step phase writing reading a }
 {
     match a {
-        Act::Command(_) => phase.at_rest(),
+        Act::Command(_) | Act::Online | Act::Offline => phase.at_rest(),
         Act::Give(_) => takes(phase, writing),
         Act::Take => gives(phase, reading),
-        Act::Online => phase.at_rest(),
-        Act::Offline => phase.at_rest(),
     }
 }
 
-// Taken where it fits, else refused with the answer.
+// Taken where it fits, else refused with the answer. `Taken` here and below where nothing refuses, as the book's `refusal_in` has it, and no
+// `Option`: bytes that are no event are always refused, and there its empty case could not come.
 pub fn unless(fits: bool, answer: Answer) -> Answer
     ensures { result ≡ pick fits Taken answer }
 {
@@ -75,9 +75,7 @@ pub fn slot_answer(loaded: bool, what: What) -> Answer
 {
     match what {
         What::In(_) => unless(!loaded, Answer::WrongSlot),
-        What::Out => unless(loaded, Answer::WrongSlot),
-        What::Error => unless(loaded, Answer::WrongSlot),
-        What::Underrun => unless(loaded, Answer::WrongSlot),
+        What::Out | What::Error | What::Underrun => unless(loaded, Answer::WrongSlot),
     }
 }
 

@@ -23,7 +23,7 @@ fn part_dropped(phase: Phase) -> Phase
     ensures { result ≡ part_dropped phase }
 {
     match phase {
-        Phase::Status(k) => Phase::Status(k),
+        Phase::Status(_) => phase,
         _ => Phase::Rest,
     }
 }
@@ -61,7 +61,8 @@ fn befall(core: Core, i: u8, what: What) -> Core
     }
 }
 
-// Refused, or the record of the drive named is changed, whichever is selected.
+// Refused, or the record of the drive named is changed, whichever is selected. Here, below and for an act the refusal is these three lines:
+// a function that takes the effect as a closure, with what it asks and promises, is longer.
 pub fn slot(core: Core, sound: Sound, i: u8, what: What) -> Turn
     ensures { Settles core sound.possible sound.short (Some (Named i what)) result }
 {

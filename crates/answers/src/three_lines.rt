@@ -24,11 +24,7 @@ pub(crate) fn lines_after(answer: Answer, core: Core) -> Lines
     ensures { result ≡ pick (row_of answer).lines_down lines_down (lines_of core) }
 {
     if answer.lines_down() {
-        Lines {
-            ready: false,
-            exception: false,
-            direction: false,
-        }
+        Lines::default()
     } else {
         lines(core)
     }

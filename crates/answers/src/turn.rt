@@ -47,17 +47,17 @@ pub fn refuse(answer: Answer, core: Core) -> Turn
     }
 }
 
-// Another phase, and nothing else.
+// Another phase, and nothing else. A copy that is changed, as with the moves of a port.
 pub fn moved_to(core: Core, phase: Phase) -> Core
     ensures { result ≡ moved_to core phase }
 {
-    Core {
-        port: core.port.at_phase(phase),
-        ..core
-    }
+    let mut after = core;
+    after.port = core.port.at_phase(phase);
+    after
 }
 
 // The phase moved on, no EXCEPTION, and DIRECTION up where the host takes bytes.
+// `direction` stands beside the byte, since the contract holds for any two.
 pub fn moved_on(core: Core, phase: Phase, byte: Option<u8>, direction: bool) -> Turn
     ensures { result ≡ moved_on core phase byte direction }
 {
@@ -66,9 +66,8 @@ pub fn moved_on(core: Core, phase: Phase, byte: Option<u8>, direction: bool) -> 
         answer: Answer::Taken,
         byte,
         lines: Lines {
-            ready: false,
-            exception: false,
             direction,
+            ..Lines::default()
         },
         core: after,
     }

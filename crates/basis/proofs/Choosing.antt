@@ -1,6 +1,10 @@
 -- Which branch a definition takes, and small laws of tests.
 use mathlib.Core.Bool.{Bool, true, false, not, ◌&&◌, false≢true}
 use mathlib.Core.Path.{◌≡◌, refl, sym}
+use Prim.Native.Nat.{ℕ, min}
+use native.Mathlib.Omega.{arith}
+use lib.Dec.{ltb}
+use borrow.Author.Tests.{ltb-true, ltb-false}
 use Rattle.basis.specs.Choice.{pick}
 
 pub elim_true : {A : Type 0} (b : Bool) (x y : A) → b ≡ true → (elim b [ true ↦ x | false ↦ y ]) ≡ x
@@ -42,3 +46,8 @@ join a b p q = rw (p, q)
 pub not_not : (b : Bool) → not b ≡ false → b ≡ true
 not_not true h = refl
 not_not false h = cc
+
+-- The less of two numbers is the one that a test chooses.
+pub min_is : (n m : ℕ) → min n m ≡ pick (ltb n m) n m
+min_is n m =
+    choice_by (λ (k : ℕ). min n m ≡ k) (ltb n m) (λ e. omega (arith, ltb-true n m e)) (λ e. omega (arith, ltb-false n m e))

@@ -1,9 +1,9 @@
 -- Laws of a number in decimal.
-use Prim.Native.Nat.{ℕ, zero, suc, ◌+◌, ◌*◌, ◌/◌, ◌%◌, ◌≤◌, ◌<◌}
+use Prim.Native.Nat.{ℕ, zero, suc, ◌+◌, ◌*◌, ◌/◌, ◌%◌, ◌^◌, ◌≤◌, ◌<◌}
 use mathlib.Core.Bool.{Bool, true, false}
 use mathlib.Core.List.{List, [], ◌∷◌, ◌++◌}
 use mathlib.Core.Path.{◌≡◌, refl, ap, ◌∙◌}
-use native.Mathlib.Nat.{div-lt_self, mul-div-le}
+use native.Mathlib.Nat.{div-lt_self, mul-div-le, one-le-pow, pow-suc}
 use native.Mathlib.Omega.{arith}
 use lib.Dec.{ltb}
 use lib.ListN.{length, length-append}
@@ -54,3 +54,33 @@ few (suc f) n p = few_by f n p (ltb n 10) refl (few f)
 -- A number has far fewer digits than it counts.
 pub few_digits : (n : ℕ) → 9 * length (decimal n) ≤ n + 9
 few_digits n = few (suc n) n (omega arith)
+
+-- A number of one digit is below ten, and one of more is not.
+pub ten_or_more : (n : ℕ) → 1 < length (decimal n) → 10 ≤ n
+ten_or_more n h = go (ltb n 10) refl
+  where
+    go : (b : Bool) → ltb n 10 ≡ b → 10 ≤ n
+    go true e = absurd (omega (arith, h, ap length (decimal_last n (ltb-true n 10 e))))
+    go false e = ltb-false n 10 e
+
+some_digit : (n : ℕ) → 1 ≤ length (decimal n)
+some_digit n = go (ltb n 10) refl
+  where
+    go : (b : Bool) → ltb n 10 ≡ b → 1 ≤ length (decimal n)
+    go true e = omega (arith, ap length (decimal_last n (ltb-true n 10 e)))
+    go false e = omega (arith, one_more n (ltb-false n 10 e))
+
+pub below_ten : (n : ℕ) → length (decimal n) ≤ 1 → n < 10
+below_ten n h = go (ltb n 10) refl
+  where
+    go : (b : Bool) → ltb n 10 ≡ b → n < 10
+    go true e = ltb-true n 10 e
+    go false e = absurd (omega (arith, h, one_more n (ltb-false n 10 e), some_digit (n / 10)))
+
+-- A number from a power of ten up to the next has one digit more than the power.
+pub digits_of_power : (d n : ℕ) → 10 ^ d ≤ n → n < 10 * 10 ^ d → length (decimal n) ≡ d + 1
+digits_of_power zero n h p = ap length (decimal_last n (omega (arith, p)))
+digits_of_power (suc d) n h p =
+    let s = pow-suc 10 d in
+    let t : 10 ≤ n = omega (arith, h, s, one-le-pow d 10 (omega arith)) in
+    omega (arith, one_more n t, digits_of_power d (n / 10) (omega (arith, h, s)) (omega (arith, p, s)))

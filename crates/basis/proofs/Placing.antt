@@ -6,6 +6,8 @@ use native.Mathlib.Nat.{add-zero}
 use native.Mathlib.Omega.{arith}
 use lib.ListN.{length, get_or, take, drop, set, length-append, take-append-drop}
 use lib.Seq.{sets, sets-eq, length-sets, set_comm, paste, take-length, take_at, drop_at, drop-cons, length-take-le, get_or-take, get_or-append-add}
+use Rattle.std.specs.Prelude.{Option, None, Some, MatchOption}
+use Rattle.std.specs.Option.{option_to_list}
 use Rattle.basis.specs.Placed.{placed}
 
 -- n bytes from an offset on, one by one
@@ -80,3 +82,12 @@ module _ (o : List ℕ) (at : ℕ) (l : List ℕ) (h : at + length l ≤ length 
       ∙ ap (λ (x : List ℕ). get_or x (at + i) 0) take_placed
       ∙ ap (λ (k : ℕ). get_or (take at o ++ l) (k + i) 0) (sym before)
       ∙ get_or-append-add (take at o) l i 0
+
+-- what is there, or not, as a slice: one byte or none
+pub one_or_none : (o : Option ℕ) {l : List ℕ} → MatchOption o (l ≡ []) (λ x. l ≡ x ∷ []) → l ≡ option_to_list o
+one_or_none None is = is
+one_or_none (Some x) is = is
+
+pub one_at_most : (o : Option ℕ) → length (option_to_list o) ≤ 1
+one_at_most None = omega arith
+one_at_most (Some x) = omega arith

@@ -1,4 +1,4 @@
-// A number in decimal, a byte in hex. Not by `write!`: there is no heap, and a text is asked for its length before a byte of it is written.
+// A number in decimal, a byte in hex. Not by `write!`: a text is asked for its length before a byte of it is written.
 ghost use Rattle.std.specs.Prelude.{◌≡◌, ◌+◌, ◌≤◌, ◌<◌, length};
 ghost use Rattle.basis.specs.Placed.{placed};
 ghost use Rattle.basis.specs.Text.{digit, decimal, high_digit, low_digit};
@@ -37,29 +37,20 @@ pub fn low_digit(byte: u8) -> u8
 }
 
 // How many digits a number has in decimal.
+#[tactic(auto, using(crate::proofs::Digits::digits_of_power, crate::proofs::Digits::decimal_last))]
 pub fn places(n: u64) -> usize
     ensures { result ≡ length (decimal n) }
 {
-    let mut k: usize = 1;
-    let mut rest = n;
-    // No `for`: what is left of the number ends the loop, and how many turns that takes is what is asked.
-    while TEN <= rest {
-        rest /= TEN;
-        k += 1;
-    }
-    k
+    n.checked_ilog10().map_or(1, |d| d as usize + 1)
 }
 
-// A number of k digits, from its last digit to its first.
+// A number of k digits, from its last digit to its first. An offset and no part: every byte of the whole buffer is promised.
 pub fn put_number(out: &mut [u8], at: usize, n: u64, k: usize)
     requires { (k ≡ length (decimal n)) × (at + k ≤ length out.old) }
     ensures { out.new ≡ placed out.old at (decimal n) }
 {
-    let mut i = k;
     let mut rest = n;
-    // No `for` over the places: each digit is taken off what is left of the number, and that ends the loop.
-    while TEN <= rest {
-        i -= 1;
+    for i in (1..k).rev() {
         out[at + i] = digit((rest % TEN) as u8);
         rest /= TEN;
     }

@@ -1,28 +1,24 @@
 -- The rest of a block in one call: the record moved where it stands up to the last byte, which then goes by the step.
 use Prim.Native.Nat.{ℕ, ◌+◌, ◌-◌, ◌≤◌, ◌<◌}
 use mathlib.Core.Path.{◌≡◌, refl, sym, ap, ◌∙◌}
-use mathlib.Core.Bool.{Bool, true, false, ◌&&◌, ◌||◌, not, false≢true}
+use mathlib.Core.Bool.{Bool, true, false, ◌&&◌, ◌||◌, false≢true}
 use mathlib.Core.List.{List, [], ◌∷◌, ◌++◌}
-use Rattle.std.specs.Prelude.{Option, None, Some, is_some, unwrap_or, option_to_list}
+use Rattle.std.specs.Prelude.{None, Some, is_some, option_to_list}
 use native.Mathlib.Omega.{arith}
 use native.Mathlib.Nat.{add-zero}
-use lib.ListN.{length, get_or, take, drop, set, length-drop, take-append-drop}
+use lib.ListN.{length, get_or, take, drop, length-drop, take-append-drop}
 use lib.Seq.{get_or-drop, take_all}
-use lib.Dec.{eqb, ltb}
-use borrow.Author.Tests.{eqb-true, ltb-true, le-ltb}
-use Rattle.std.specs.Int.{from_bool}
+use lib.Dec.{ltb}
+use borrow.Author.Tests.{eqb-true, ltb-true}
 use Rattle.basis.specs.Choice.{pick}
 use Rattle.basis.specs.Placed.{placed}
-use Rattle.basis.proofs.Placing.{placed_none, placed_sets}
 use Rattle.tape.specs.Record.{body_size, found_at}
 use Rattle.rules.specs.declared.drive.Drive.{Drive}
-use Rattle.rules.specs.declared.answer.Answer.{Answer}
-use Rattle.rules.specs.declared.answer.Answer.TheVariants.{Taken, Raised, OutOfStep, WrongSlot, Malformed, Impossible, TooLong}
+use Rattle.rules.specs.declared.answer.Turn.{Turn}
 use Rattle.rules.specs.declared.phase.Phase.{Phase}
 use Rattle.rules.specs.declared.phase.Phase.TheVariants.{Taking, Giving}
 use Rattle.rules.specs.declared.unit.Core.{Core}
 use Rattle.rules.specs.declared.unit.Unit.{Unit}
-use Rattle.rules.specs.Answer.{row_of}
 use Rattle.rules.specs.Drive.{writes, reads}
 use Rattle.rules.specs.Edge.{is_block}
 use Rattle.rules.specs.Phase.{at_rest, given_before, taken_before}
@@ -35,13 +31,13 @@ use Rattle.unit.specs.Ahead.{ahead_of, given_ahead, read_ahead, taken_ahead, Rea
 use Rattle.unit.proofs.Handover.{Sizes}
 use Rattle.unit.proofs.Legs.{given_leg, given_one, taken_leg, taken_one}
 use Rattle.unit.proofs.Completed.{given_completed, taken_completed}
-use Rattle.layout.specs.Written.{flag, phase_at, phase_bytes, unit, unit_bytes}
+use Rattle.layout.specs.Written.{phase_at, phase_bytes, unit, unit_bytes}
 use Rattle.layout.specs.Read.{is_record, core_of, staging_of, unit_of}
 use Rattle.layout.specs.Laws.{Octets}
 use Rattle.layout.proofs.Back.{read_back}
 use Rattle.layout.proofs.Form.{record_long}
 use Rattle.layout.proofs.InPlace.{phase_moved}
-use Rattle.board.specs.Serve.{Tapes, lent_with, Served, ServedMany}
+use Rattle.board.specs.Serve.{Tapes, lent_with, result_bytes, SteppedIn, ServedMany}
 use Rattle.board.specs.Ends.{ends_block}
 use Rattle.board.proofs.InPlace.{lent_part, part_long, octets_six}
 
@@ -83,39 +79,6 @@ read_most d t ph count k ends is some =
     let block = is_block (found_at t d.head) in
     only_if block ahead k (only_if (reads d) (pick block ahead 0) k is some) some ∙ all.ahead
 
--- a bool by its byte
-pub flag_true : (b : Bool) → flag b ≡ 1 → b ≡ true
-flag_true true e = refl
-flag_true false e = absurd (none (flag false) refl e)
-  where
-    none : (n : ℕ) → n ≡ 0 → n ≡ 1 → ⊥
-    none n p q = omega (arith, p, q)
-
-pub flag_false : (b : Bool) → (flag b ≡ 1 → ⊥) → b ≡ false
-flag_false true other = absurd (other refl)
-flag_false false other = refl
-
-flag_back : (b : Bool) → eqb (flag b) 1 ≡ b
-flag_back true = refl
-flag_back false = refl
-
--- a byte that was handed out is put where it goes
-byte_put : (l : List ℕ) (k : ℕ) → k < length l → (o : Option ℕ) → pick (is_some o) (set l k (unwrap_or o 0)) l ≡ placed l k (option_to_list o)
-unfolding pick
-byte_put l k inside None = sym (placed_none l k)
-byte_put l k inside (Some b) = sym (placed_sets l k (b ∷ []) (omega (arith, inside)))
-
--- answers 0 and 1 are those that refuse nothing
-went_by_number : (a : Answer) → from_bool (ltb (row_of a).number 2) ≡ pick (not (row_of a).refuses) 1 0
-unfolding pick
-went_by_number Taken = refl
-went_by_number Raised = refl
-went_by_number OutOfStep = refl
-went_by_number WrongSlot = refl
-went_by_number Malformed = refl
-went_by_number Impossible = refl
-went_by_number TooLong = refl
-
 -- ---- The record moved
 
 module _ (l : List ℕ) (small : Octets l) (so : is_record l ≡ true) (ph : Phase) (g : List ℕ) (long : length g ≡ body_size) (l₁ : List ℕ)
@@ -147,7 +110,7 @@ staging_long l so = sym (ap length (lent_part l [] (record_long l so))) ∙ part
 
 -- ---- Bytes given, and bytes taken
 
-module _ (l : List ℕ) (t t₂ : Tapes) (l₁ out l₂ : List ℕ) (small : Octets l) (so : is_record l ≡ true)
+module _ (l : List ℕ) (t t₂ : Tapes) (l₁ out l₂ : List ℕ) (turn : Turn) (small : Octets l) (so : is_record l ≡ true)
     (calm : (possible (core_of l) && short (lent_with (staging_of l) t)) ≡ true)
     (kept : SameSizes (lent_with (staging_of l) t₂) (lent_with (staging_of l) t)) where
   abbrev c : Core
@@ -169,10 +132,10 @@ module _ (l : List ℕ) (t t₂ : Tapes) (l₁ out l₂ : List ℕ) (small : Oct
       → ends_block (at_rest c.port.phase) (given_before c.port.phase) (length bytes) ≡ true
       → let n = given_before c.port.phase in let k = length bytes - 1 in let g = placed (staging_of l) n (take k bytes) in
       length g ≡ body_size → l₁ ≡ placed (take 146 l ++ g) phase_at (phase_bytes (Taking (n + k)))
-      → Served l₁ t (2 ∷ get_or bytes k 0 ∷ []) out l₂ t₂ → r ≡ k + from_bool (ltb (get_or out 0 0) 2)
+      → SteppedIn l₁ t (2 ∷ get_or bytes k 0 ∷ []) turn l₂ t₂ → out ≡ result_bytes turn → r ≡ k + pick (went_in turn) 1 0
       → ServedMany (λ k l h l'. GivesOver k l bytes h l') l t r out l₂ t₂
   unfolding pick given_ahead
-  given_served bytes r writing ends long is served count =
+  given_served bytes r writing ends long is stepped result count =
       let n = given_before c.port.phase in
       let k = length bytes - 1 in
       let g = placed (staging_of l) n (take k bytes) in
@@ -182,32 +145,31 @@ module _ (l : List ℕ) (t t₂ : Tapes) (l₁ out l₂ : List ℕ) (small : Oct
       let last = moved_on c (Taking (n + k)) None false in
       let first = given_leg c lent₀ bytes k last g (staging_long l so) ahead (omega (arith, all.two)) refl refl in
       let byte : get_or (drop k bytes) 0 0 ≡ get_or bytes k 0 = get_or-drop k bytes 0 0 ∙ ap (λ (m : ℕ). get_or bytes m 0) (add-zero k) in
-      let step = rw (moved_core l small so (Taking (n + k)) g long l₁ is, moved_staging l small so (Taking (n + k)) g long l₁ is, ← byte) at served.steps in
-      let turn = served.turn in
+      let step = rw (moved_core l small so (Taking (n + k)) g long l₁ is, moved_staging l small so (Taking (n + k)) g long l₁ is, ← byte) at stepped.steps in
       let some : 1 ≤ length (drop k bytes) = omega (arith, length-drop k bytes, all.two) in
-      let second = given_one (moved_to c (Taking (n + k))) (lent_with g t) (drop k bytes) (pick (went_in turn) 1 0) turn (lent_with served.staging t₂) some step refl in
+      let second = given_one (moved_to c (Taking (n + k))) (lent_with g t) (drop k bytes) (pick (went_in turn) 1 0) turn (lent_with stepped.staging t₂) some step refl in
       record {
         handed = record { count = k + pick (went_in turn) 1 0; last = turn };
-        staging = served.staging;
+        staging = stepped.staging;
         is =
-            given_completed c lent₀ (lent_with g t) (lent_with served.staging t₂) (record { count = k; last = last })
-            (record { count = pick (went_in turn) 1 0; last = turn }) refl (sizes g long) (sizes' g served.staging long served.sized.staging) bytes
+            given_completed c lent₀ (lent_with g t) (lent_with stepped.staging t₂) (record { count = k; last = last })
+            (record { count = pick (went_in turn) 1 0; last = turn }) refl (sizes g long) (sizes' g stepped.staging long stepped.sized.staging) bytes
             first second (omega (arith, all.two));
-        count = count ∙ ap (λ (o : List ℕ). k + from_bool (ltb (get_or o 0 0) 2)) served.result ∙ ap (λ (x : ℕ). k + x) (went_by_number turn.answer);
-        result = served.result;
-        left = served.left;
-        sized = served.sized;
+        count = count;
+        result = result;
+        left = stepped.left;
+        sized = stepped.sized;
       }
 
   pub taken_served : (bytes bytes₁ bytes₂ : List ℕ) (k r : ℕ) → let ph = c.port.phase in let n = taken_before ph in
       ends_block (at_rest ph) n (length bytes) ≡ true
       → ReadsOn (drive_at c c.port.selected) (tape_at (lent_with (staging_of l) t) c.port.selected) ph bytes k bytes₁
       → length bytes₁ ≡ length bytes → 1 ≤ k → l₁ ≡ placed (take 146 l ++ staging_of l) phase_at (phase_bytes (Giving (n + k)))
-      → Served l₁ t (3 ∷ []) out l₂ t₂ → bytes₂ ≡ pick (eqb (get_or out 1 0) 1) (set bytes₁ k (get_or out 2 0)) bytes₁
-      → r ≡ k + pick (eqb (get_or out 1 0) 1) 1 0
+      → SteppedIn l₁ t (3 ∷ []) turn l₂ t₂ → out ≡ result_bytes turn → bytes₂ ≡ placed bytes₁ k (option_to_list turn.byte)
+      → r ≡ k + pick (is_some turn.byte) 1 0
       → ServedMany (λ k l h l'. TakesOver k l bytes h l' bytes₂) l t r out l₂ t₂
   unfolding pick taken_ahead read_ahead
-  taken_served bytes bytes₁ bytes₂ k r ends read size some is served put count =
+  taken_served bytes bytes₁ bytes₂ k r ends read size some is stepped result put count =
       let ph = c.port.phase in
       let n = taken_before ph in
       let g = staging_of l in
@@ -219,23 +181,20 @@ module _ (l : List ℕ) (t t₂ : Tapes) (l₁ out l₂ : List ℕ) (small : Oct
       let ahead : k ≡ taken_ahead c (possible c && short lent₀) tape (length bytes - 0) = rw (calm, ← whole) read.count in
       let last = moved_on c (Giving (n + k)) (Some (get_or bytes₁ (0 + k - 1) 0)) true in
       let first = taken_leg c lent₀ bytes 0 k last bytes₁ long (omega arith) ahead some read.bytes refl in
-      let step = rw (moved_core l small so (Giving (n + k)) g long l₁ is, moved_staging l small so (Giving (n + k)) g long l₁ is) at served.steps in
-      let turn = served.turn in
-      let given : eqb (get_or out 1 0) 1 ≡ is_some turn.byte = ap (λ (o : List ℕ). eqb (get_or o 1 0) 1) served.result ∙ flag_back (is_some turn.byte) in
-      let byte : get_or out 2 0 ≡ unwrap_or turn.byte 0 = ap (λ (o : List ℕ). get_or o 2 0) served.result in
+      let step = rw (moved_core l small so (Giving (n + k)) g long l₁ is, moved_staging l small so (Giving (n + k)) g long l₁ is) at stepped.steps in
       let most : k ≡ length bytes - 1 = read_most (drive_at c c.port.selected) tape ph (length bytes) k ends read.count some in
       let inside : k < length bytes₁ = omega (arith, most, size, all.two) in
       let second =
-      taken_one (moved_to c (Giving (n + k))) lent₀ bytes₁ k (pick (is_some turn.byte) 1 0) turn (lent_with served.staging t₂) bytes₂ long inside step refl (rw (given, byte) at put ∙ byte_put bytes₁ k inside turn.byte) in
+      taken_one (moved_to c (Giving (n + k))) lent₀ bytes₁ k (pick (is_some turn.byte) 1 0) turn (lent_with stepped.staging t₂) bytes₂ long inside step refl put in
       record {
         handed = record { count = k + pick (is_some turn.byte) 1 0; last = turn };
-        staging = served.staging;
+        staging = stepped.staging;
         is =
-            taken_completed c lent₀ lent₀ (lent_with served.staging t₂) (record { count = k; last = last })
-            (record { count = pick (is_some turn.byte) 1 0; last = turn }) refl (sizes g long) (sizes' g served.staging long served.sized.staging) bytes
+            taken_completed c lent₀ lent₀ (lent_with stepped.staging t₂) (record { count = k; last = last })
+            (record { count = pick (is_some turn.byte) 1 0; last = turn }) refl (sizes g long) (sizes' g stepped.staging long stepped.sized.staging) bytes
             bytes₁ bytes₂ size first second (omega (arith, most));
-        count = rw (given) at count;
-        result = served.result;
-        left = served.left;
-        sized = served.sized;
+        count = count;
+        result = result;
+        left = stepped.left;
+        sized = stepped.sized;
       }

@@ -43,6 +43,13 @@ result_bytes r = (row_of r.answer).number ∷ flag (is_some r.byte) ∷ unwrap_o
 abbrev pub no_record : List ℕ
 no_record = (row_of Impossible).number ∷ flag false ∷ 0 ∷ lines_bytes lines_down
 
+-- The unit's step on the record that a buffer holds, with this turn; what it leaves is written back.
+pub record SteppedIn (l : List ℕ) (t : Tapes) (event : List ℕ) (turn : Turn) (l' : List ℕ) (t' : Tapes) : Type 0 where
+  pub staging : List ℕ
+  pub steps : Steps (core_of l) (lent_with (staging_of l) t) event turn (lent_with staging t')
+  pub left : l' ≡ unit_bytes (unit turn.core staging)
+  pub sized : Sized (unit turn.core staging)
+
 -- A buffer that is a record: the unit's step on what it holds. Its turn is the result, and what it leaves is written back.
 pub record Served (l : List ℕ) (t : Tapes) (event out l' : List ℕ) (t' : Tapes) : Type 0 where
   pub turn : Turn

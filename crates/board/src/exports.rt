@@ -91,6 +91,7 @@ pub extern "C" fn glenoulty_give(
 }
 
 // Bytes taken one after the other, up to and with the first that is not answered 0: how many came, and the result of the last.
+// Apart from `glenoulty_give`: one function of both would say `Gives` and `Takes` once more, as one.
 #[unsafe(no_mangle)]
 pub extern "C" fn glenoulty_take(
     buffer: &mut [u8],

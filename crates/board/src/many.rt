@@ -1,7 +1,6 @@
 // Many bytes in one call on a buffer that is a record. Bytes that end with the last of a block, as a block in one call
-// does, move the record where it stands up to that byte; all else goes by the unit's call.
-ghost use Rattle.std.specs.Prelude.{Bool, ◌≡◌, true, ◌&&◌, ◌+◌, ◌<◌, length, set, eqb};
-ghost use Rattle.basis.specs.Choice.{pick};
+// does, move the record where it stands up to that byte; all else goes by the unit's call. Each asks for a record, as in `serve`.
+ghost use Rattle.std.specs.Prelude.{Bool, ◌≡◌, true, ◌&&◌, length};
 ghost use Rattle.tape.specs.Record.{body_size};
 ghost use Rattle.rules.specs.Drive.{writes};
 ghost use Rattle.rules.specs.Phase.{at_rest, given_before, taken_before};
@@ -18,16 +17,18 @@ ghost use Rattle.board.specs.Serve.{tapes_of, lent_with, ServedMany};
 ghost use Rattle.board.specs.Ends.{ends_block};
 
 use crate::RESULT;
-use crate::judge::possible_in;
-use crate::serve::{serve_step, write_turn};
+use crate::judge::calm;
+use crate::result::turn_bytes;
+use crate::serve::step_in;
 use answers::{GIVEN, TAKEN};
 use basis::put;
-use layout::{RECORD, STAGING, core_of, drive_in, port_in, write_phase};
+use layout::{RECORD, STAGING, core_of, drive_in, port_in, write_core, write_phase};
 use rules::{Core, Drive, LAST_PLACE, Phase, Port};
 use tape::BODY;
 use unit::{Handed, Tapes, give_bytes, read_on, take_bytes};
 
-// Whether so many bytes, two or more, are the rest of a block in which n went over; at Rest a block begins.
+// Whether so many bytes, two or more, are the rest of a block in which n went over. `rest` beside n: at Rest a block begins at place 0,
+// in any other phase place 0 is none. Not by `ahead_of` of `unit`: that counts bytes before the last, this asks whether the last is the end.
 #[tactic(auto, using(basis::specs::Tests::tests), unfolding(basis::specs::Choice::pick, crate::specs::Ends::ends_block))]
 fn ends_block(rest: bool, n: usize, count: usize) -> bool
     ensures { result ≡ ends_block rest n count }
@@ -35,21 +36,8 @@ fn ends_block(rest: bool, n: usize, count: usize) -> bool
     (rest | (0 < n)) && n < LAST_PLACE && count == BODY - n
 }
 
-// The last byte put behind k others if it was handed out, and how many there are then.
-#[tactic(auto, using(basis::specs::Tests::tests), unfolding(basis::specs::Choice::pick))]
-fn keep_last(bytes: &mut [u8], k: usize, given: u8, byte: u8) -> usize
-    requires { (k < body_size) × (k < length bytes.old) }
-    ensures { (result ≡ k + pick (eqb given 1) 1 0)
-        × (bytes.new ≡ pick (eqb given 1) (set bytes.old k byte) bytes.old) }
-{
-    if given == 1 {
-        bytes[k] = byte;
-        return k + 1;
-    }
-    k
-}
-
-// Bytes that go one way: the unit's call on them, and what it comes to.
+// Bytes that go one way: the unit's call on them, and what it comes to. The staging block is a slice with its length asked for, as the step
+// is lent it.
 pub(crate) trait Over {
     ghost goes: { Self → Core → Lent → Handed → Lent → Self → Type 0 };
 
@@ -67,6 +55,7 @@ pub(crate) trait Over {
 }
 
 // Bytes that may be the rest of a block: all but the last are moved where they stand, the last goes by the step.
+// A phase beside the drive, and no `At` of `port`: of the port nothing else is looked at.
 pub(crate) trait Way: Over {
     ghost ends: { Self → Phase → Drive → Bool };
 
@@ -107,7 +96,8 @@ fn serve_all<W: Over>(
 {
     let core = core_of(buffer);
     let handed = way.go_over(core, &mut buffer[STAGING..RECORD], tapes);
-    *res = write_turn(buffer, handed.last);
+    write_core(buffer, handed.last.core);
+    *res = turn_bytes(handed.last);
     handed.count
 }
 
@@ -126,10 +116,8 @@ pub(crate) fn serve_many<W: Way>(
     ensures stays { W.stays way.old way.new }
 {
     let port = port_in(buffer);
-    if way.ends(port.phase, drive_in(buffer, port.selected)) {
-        if possible_in(buffer) & tapes.short() {
-            return way.complete(buffer, tapes, port, res);
-        }
+    if way.ends(port.phase, drive_in(buffer, port.selected)) && calm(buffer, tapes) {
+        return way.complete(buffer, tapes, port, res);
     }
     serve_all(buffer, tapes, way, res)
 }
@@ -169,9 +157,9 @@ impl Way for Given<'_> {
         put(&mut buffer[STAGING..RECORD], n, &self.bytes[0..k]);
         write_phase(buffer, Phase::Taking(n + k));
         let event = [GIVEN, self.bytes[k]];
-        *res = serve_step(buffer, tapes, &event);
-        // the last went in by an answer that refuses nothing: 0 or 1
-        k + usize::from(res[0] < 2)
+        let last = step_in(buffer, tapes, &event);
+        *res = turn_bytes(last);
+        k + usize::from(!last.answer.refuses())
     }
 }
 
@@ -213,7 +201,9 @@ impl Way for Taken<'_> {
         }
         write_phase(buffer, Phase::Giving(port.phase.taken_before() + k));
         let event = [TAKEN];
-        *res = serve_step(buffer, tapes, &event);
-        keep_last(self.bytes, k, res[1], res[2])
+        let last = step_in(buffer, tapes, &event);
+        *res = turn_bytes(last);
+        put(self.bytes, k, last.byte.as_slice());
+        k + usize::from(last.byte.is_some())
     }
 }

@@ -9,6 +9,7 @@ use crate::{LINES, RESULT};
 use layout::flag;
 use rules::{Answer, Lines, Turn};
 
+// Here and below each byte stands at its place, as in a record.
 pub(crate) fn lines_bytes(lines: Lines) -> [u8; LINES]
     ensures { result ≡ lines_bytes lines }
 {
@@ -19,7 +20,7 @@ pub(crate) fn lines_bytes(lines: Lines) -> [u8; LINES]
     ]
 }
 
-// The answer's number, whether a byte was given, the byte or 0, the lines.
+// The answer's number, whether a byte was given, the byte or 0, the lines. Three values and no `Turn`: within a block no core is built for one.
 fn result_bytes(answer: Answer, byte: Option<u8>, lines: Lines) -> [u8; RESULT]
     ensures { result ≡ (row_of answer).number ∷ flag (is_some byte) ∷ unwrap_or byte 0 ∷ lines_bytes lines }
 {
@@ -46,20 +47,19 @@ pub(crate) fn byte_bytes(byte: Option<u8>) -> [u8; RESULT]
     ensures { result ≡ (row_of Taken).number ∷ flag (is_some byte) ∷ unwrap_or byte 0
         ∷ lines_bytes (record { ready = false; exception = false; direction = is_some byte }) }
 {
-    let given = flag(byte.is_some());
-    [
-        Answer::Taken.number(),
-        given,
-        byte.unwrap_or(0),
-        0,
-        0,
-        given,
-    ]
+    result_bytes(
+        Answer::Taken,
+        byte,
+        Lines {
+            direction: byte.is_some(),
+            ..Lines::default()
+        },
+    )
 }
 
 // 5, no byte, the lines down.
 pub(crate) fn no_record() -> [u8; RESULT]
     ensures { result ≡ no_record }
 {
-    [Answer::Impossible.number(), 0, 0, 0, 0, 0]
+    result_bytes(Answer::Impossible, None, Lines::default())
 }

@@ -5,7 +5,7 @@ ghost use Rattle.rules.specs.Unit.{drive_at, put_drive};
 use crate::raise;
 use rules::{Core, Counter};
 
-// The drive by its number; a number above 3 means the last. The rest of the core stays: one drive is lent by its name, and none is copied.
+// The drive by its number; a number above 3 means the last. Lent by its name where it stands: document 01 asks for a counter raised in a lent record.
 pub fn count_in<C: Counter>(core: Core, i: u8) -> Core
     ensures { result ≡ put_drive core core.port i (C.counted (drive_at core i)) }
 {

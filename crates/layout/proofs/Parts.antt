@@ -15,7 +15,7 @@ use Rattle.rules.specs.Unit.{one_of, drive_at}
 use Rattle.rules.proofs.Places.{one_holds, last_one}
 use Rattle.basis.specs.Choice.{pick}
 use Rattle.basis.proofs.Placing.{each, each_is}
-use Rattle.layout.specs.Number.{two, four, eight}
+use Rattle.layout.specs.Number.{two, four, eight, byte_at}
 use Rattle.basis.specs.Placed.{placed}
 use Rattle.layout.specs.Written.{flag, unused, mode_byte, latched_bytes, drive_bytes, port_bytes, unit, unit_bytes}
 use Rattle.layout.specs.Written.{port_size, drive_size, record_size}
@@ -57,6 +57,12 @@ drive_found l i = go (eqb i 0) (eqb i 1) (eqb i 2)
 -- six octets are their list
 pub six : (o : List ℕ) → length o ≡ 6 → get_or o 0 0 ∷ get_or o 1 0 ∷ get_or o 2 0 ∷ get_or o 3 0 ∷ get_or o 4 0 ∷ get_or o 5 0 ∷ [] ≡ o
 six o size = each_is 6 0 o (omega (arith, size)) ∙ take_all 6 o (omega (arith, size))
+
+-- the octets are the stretch behind the phase
+pub octets_read : (l : List ℕ) → length l ≡ port_size
+    → stretch 12 6 l ≡ byte_at l 12 ∷ byte_at l 13 ∷ byte_at l 14 ∷ byte_at l 15 ∷ byte_at l 16 ∷ byte_at l 17 ∷ []
+unfolding stretch
+octets_read l size = sym (each_is 6 12 l (omega (arith, size)))
 
 -- the latched bits are bools where all of their eight bytes are, one after the other
 pub latched_folded : (l : List ℕ) → 30 ≤ length l → fold (λ so b. so && is_flag b) true (take 8 (drop 22 l)) ≡ is_latched l

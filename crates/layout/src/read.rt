@@ -16,7 +16,7 @@ fn is_phase(b: u8, n: usize) -> bool
     (b <= 3) & ((1 <= b) | (n == 0))
 }
 
-// No `TryFrom` here and below: `is_record` has looked at every byte before, and C has these numbers.
+// No `TryFrom` here and below: `core_of` is promised of any bytes of a record's length and cannot fail, and the numbers are C's.
 fn mode_of(b: u8) -> Mode
     ensures { result ≡ mode_of b }
 {
@@ -105,33 +105,27 @@ fn latched_of(p: &[u8; DRIVE]) -> Latched
 fn drive_of(p: &[u8; DRIVE]) -> Drive
     ensures { result ≡ drive_of p.now }
 {
-    let head = usize::from_le_bytes(part(p, 0));
-    let errors = u16::from_le_bytes(part(p, 12));
-    let underruns = u16::from_le_bytes(part(p, 14));
-    let mode = mode_of(p[19]);
-    let latched = latched_of(p);
     Drive {
-        head,
-        errors: Errors(errors),
-        underruns: Underruns(underruns),
+        head: usize::from_le_bytes(part(p, 0)),
+        errors: Errors(u16::from_le_bytes(part(p, 12))),
+        underruns: Underruns(u16::from_le_bytes(part(p, 14))),
         loaded: p[16] == 1,
         protected: p[17] == 1,
-        mode,
+        mode: mode_of(p[19]),
         late: p[20],
         exception: p[21] == 1,
-        latched,
+        latched: latched_of(p),
     }
 }
 
 fn port_of(p: &[u8; PORT]) -> Port
     ensures { result ≡ port_of p.now }
 {
-    let phase = phase_of(p[3], phase_number(p));
     Port {
         selected: p[1],
         online: p[2] == 1,
-        phase,
-        octets: [p[12], p[13], p[14], p[15], p[16], p[17]],
+        phase: phase_of(p[3], phase_number(p)),
+        octets: part(p, 12),
     }
 }
 
@@ -179,16 +173,11 @@ pub fn core_of(buffer: &[u8]) -> Core
     requires { length buffer.now ≡ record_size }
     ensures { result ≡ core_of buffer.now }
 {
-    let port = port_in(buffer);
-    let drive0 = drive_of(&part(buffer, DRIVE_0));
-    let drive1 = drive_of(&part(buffer, DRIVE_1));
-    let drive2 = drive_of(&part(buffer, DRIVE_2));
-    let drive3 = drive_of(&part(buffer, DRIVE_3));
     Core {
-        port,
-        drive0,
-        drive1,
-        drive2,
-        drive3,
+        port: port_in(buffer),
+        drive0: drive_of(&part(buffer, DRIVE_0)),
+        drive1: drive_of(&part(buffer, DRIVE_1)),
+        drive2: drive_of(&part(buffer, DRIVE_2)),
+        drive3: drive_of(&part(buffer, DRIVE_3)),
     }
 }

@@ -9,8 +9,8 @@ use Rattle.rules.specs.Order.{order_of, needs_of, fault_by}
 
 pub record OneOutcome : Type 0 where
   pub order_of : (c : ℕ) (r r' : Option Order) → r ≡ order_of c → r' ≡ order_of c → r ≡ r'
-  pub needs_of : (o : Option Order) (r r' : Needs) → r ≡ needs_of o → r' ≡ needs_of o → r ≡ r'
-  pub fault_of : (online : Bool) (d : Drive) (l : ℕ) (n : Needs) (r r' : Result (Unit {0}) Fault)
+  pub needs_of : (o : Option Order) (r r' : Option Needs) → r ≡ needs_of o → r' ≡ needs_of o → r ≡ r'
+  pub fault_of : (online : Bool) (d : Drive) (l : ℕ) (n : Option Needs) (r r' : Result (Unit {0}) Fault)
       → r ≡ fault_by online d l n → r' ≡ fault_by online d l n → r ≡ r'
   pub spare_of : (late r r' : ℕ) → r ≡ spare_of late → r' ≡ spare_of late → r ≡ r'
   pub allowed_at : (h l r r' : ℕ) → r ≡ allowed_at h l → r' ≡ allowed_at h l → r ≡ r'

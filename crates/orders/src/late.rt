@@ -1,4 +1,5 @@
 // Early warning: the room that a block asks for, and the late blocks that a WRITE past it may still take.
+// Head and length are two plain numbers, as in the book: no tape is in reach.
 ghost use Rattle.std.specs.Prelude.{◌≡◌};
 ghost use Rattle.rules.specs.Late.{spare_of, block_room, allowed_at, goes_on};
 
@@ -12,7 +13,7 @@ pub fn spare_of(late: u8) -> usize
     if late == 0 { KEPT } else { KEPT_LATE }
 }
 
-// The room test of a block: there is no other.
+// The room test of a block, the one that `record_block` makes.
 fn block_room(late: u8, head: usize, length: usize) -> bool
     ensures { result ≡ block_room late head length }
 {

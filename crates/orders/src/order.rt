@@ -1,11 +1,11 @@
 // Commands: the codes, what each order needs, and the tests, of which the first that fits decides.
 ghost use Rattle.std.specs.Prelude.{◌≡◌};
-ghost use Rattle.rules.specs.Order.{order_of, needs_of, in_sequence, illegal, has_room, fault_by};
+ghost use Rattle.rules.specs.Order.{order_of, row_for, needs_of, in_sequence, illegal, has_room, fault_by};
 
 use rules::{Drive, Fault, Mode, Needs, Order, WRITE_ROOM};
 use tape::{MARK_SIZE, has_room};
 
-// The order of a command octet, for each of the 256.
+// The order of a command octet, for each of the 256. No `TryFrom`: an unknown code is `None` in the book, and no error to name.
 pub fn order_of(code: u8) -> Option<Order>
     ensures { result ≡ order_of code }
 {
@@ -26,53 +26,27 @@ pub fn order_of(code: u8) -> Option<Order>
     }
 }
 
-// The row of a code that nobody knows, and of an order that needs nothing.
-const UNKNOWN: Needs = Needs {
-    known: false,
-    status: false,
-    writing: false,
-    reading: false,
-    online: false,
-    cartridge: false,
-    plug: false,
-    room: 0,
-};
-
-const FREE: Needs = Needs {
-    known: true,
-    status: false,
-    writing: false,
-    reading: false,
-    online: false,
-    cartridge: false,
-    plug: false,
-    room: 0,
-};
-
-// What each order needs beside a known code.
-pub fn needs_of(order: Option<Order>) -> Needs
-    ensures { result ≡ needs_of order }
+// What each order needs.
+fn row_for(order: Order) -> Needs
+    ensures { result ≡ row_for order }
 {
-    let Some(order) = order else {
-        return UNKNOWN;
-    };
     match order {
-        Order::Select(_) => FREE,
+        Order::Select(_) => Needs::default(),
         Order::Bot | Order::Initialize => Needs {
             cartridge: true,
-            ..FREE
+            ..Needs::default()
         },
         Order::Erase => Needs {
             cartridge: true,
             plug: true,
-            ..FREE
+            ..Needs::default()
         },
         Order::Write => Needs {
             online: true,
             cartridge: true,
             plug: true,
             room: WRITE_ROOM,
-            ..FREE
+            ..Needs::default()
         },
         Order::WriteMark => Needs {
             writing: true,
@@ -80,26 +54,33 @@ pub fn needs_of(order: Option<Order>) -> Needs
             cartridge: true,
             plug: true,
             room: MARK_SIZE,
-            ..FREE
+            ..Needs::default()
         },
         Order::Read => Needs {
             online: true,
             cartridge: true,
-            ..FREE
+            ..Needs::default()
         },
         Order::ReadMark => Needs {
             reading: true,
             online: true,
             cartridge: true,
-            ..FREE
+            ..Needs::default()
         },
         Order::ReadStatus => Needs {
             status: true,
             writing: true,
             reading: true,
-            ..FREE
+            ..Needs::default()
         },
     }
+}
+
+// Test 2: an unknown code has no row.
+pub fn needs_of(order: Option<Order>) -> Option<Needs>
+    ensures { result ≡ needs_of order }
+{
+    order.map(row_for)
 }
 
 // Test 3: Idle takes all; Writing and Reading take what their column says.
@@ -113,12 +94,12 @@ fn in_sequence(mode: Mode, needs: Needs) -> bool
     }
 }
 
-// Tests 1 to 4: EXCEPTION up, unknown code, sequence, ONLINE low.
+// Tests 1, 3 and 4: EXCEPTION up, sequence, ONLINE low.
 fn illegal(online: bool, drive: Drive, needs: Needs) -> bool
     ensures { result ≡ illegal online drive needs }
 {
     let sequence = in_sequence(drive.mode, needs);
-    (drive.exception & !needs.status) | (!needs.known | (!sequence | (needs.online & !online)))
+    (drive.exception & !needs.status) | (!sequence | (needs.online & !online))
 }
 
 // Test 7: who asks for no room is not tested.
@@ -129,9 +110,15 @@ fn room_for(room: usize, head: usize, length: usize) -> bool
 }
 
 // The seven tests against the level of ONLINE, the record and the tape's length: the first that fits decides.
-pub fn fault_of(online: bool, drive: Drive, length: usize, needs: Needs) -> Result<(), Fault>
+pub fn fault_of(
+    online: bool,
+    drive: Drive,
+    length: usize,
+    needs: Option<Needs>,
+) -> Result<(), Fault>
     ensures { result ≡ fault_by online drive length needs }
 {
+    let needs = needs.ok_or(Fault::Illegal)?;
     if illegal(online, drive, needs) {
         return Err(Fault::Illegal);
     }

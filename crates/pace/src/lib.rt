@@ -2,7 +2,6 @@
 #![tactic(auto)]
 
 ghost use Rattle.std.specs.Prelude.{◌≡◌, length};
-ghost use Rattle.tape.specs.Record.{body_size};
 ghost use Rattle.rules.specs.Unit.{fresh_core};
 ghost use Rattle.unit.specs.Tapes.{lent_on, Same};
 ghost use Rattle.rules.specs.Ran.{RunsTo};
@@ -29,9 +28,9 @@ fn event_of(pair: &[u8]) -> &[u8]
     &pair[..size]
 }
 
-// A fresh core over pairs of bytes, each an event of its kind's size.
-fn run_core(staging: &mut [u8], tapes: &mut Tapes<'_>, pairs: &[u8]) -> Core
-    requires { length staging.old ≡ body_size }
+// A fresh core over pairs of bytes, each an event of its kind's size. Not by `step_core`, though the block is an array: through it a core is
+// copied once more, and a byte misses its bar (docs/SPEED.md).
+fn run_core(staging: &mut [u8; BODY], tapes: &mut Tapes<'_>, pairs: &[u8]) -> Core
     ensures runs { RunsTo fresh_core
         (lent_on staging.old tapes.old)
         (pairs_of pairs.now) result
@@ -94,7 +93,7 @@ pub extern "C" fn pace_give(
     handed.last.core.port.selected
 }
 
-// Or bytes taken by one.
+// Or bytes taken by one. Apart from `pace_give`, as `take_bytes` from `give_bytes`.
 #[unsafe(no_mangle)]
 pub extern "C" fn pace_take(
     tape0: &mut [u8],

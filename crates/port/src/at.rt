@@ -1,4 +1,5 @@
 // What an act sees beside its tape, the port and the drive's own record, and what it hands back.
+// The tape stands beside it: some acts are lent it to be changed and others to be read, and an `At` is handed on by value.
 ghost use Rattle.std.specs.Prelude.{◌≡◌, false, None, Some};
 ghost use Rattle.rules.specs.declared.phase.Phase.TheVariants.{Rest};
 ghost use Rattle.rules.specs.Unit.{at_phase, at_level};
@@ -11,7 +12,7 @@ pub struct At {
     pub drive: Drive,
 }
 
-// Without a byte.
+// Without a byte. Port and drive apart and no `At`: it is handed a port that moved and a drive that moved, each made anew.
 pub(crate) fn leaves(raised: bool, port: Port, drive: Drive) -> Moved
     ensures { result ≡ record { raised = raised; byte = None; port = port; drive = drive } }
 {

@@ -3,7 +3,7 @@ ghost use Rattle.std.specs.Prelude.{◌≡◌, true, List, ℕ, ◌+◌, leb, le
 ghost use Rattle.basis.specs.Choice.{pick};
 ghost use Rattle.rules.specs.declared.order.Order.TheVariants.{Erase, Write, WriteMark, Read, ReadMark, ReadStatus};
 ghost use Rattle.rules.specs.declared.order.Fault.TheVariants.{Full};
-ghost use Rattle.rules.specs.Order.{order_of, needs_of, mark_room, has_room};
+ghost use Rattle.rules.specs.Order.{order_of, row_for, mark_room, has_room};
 ghost use Rattle.rules.specs.Effect.{seat, acted, ordered, fault_of, commanded};
 
 use crate::at::{At, leaves};
@@ -68,18 +68,14 @@ fn read_status(at: At) -> Moved
 }
 
 // An order that passed the tests.
-fn carry_out(at: At, tape: &mut [u8], order: Option<Order>) -> Moved
-    requires { has_room (needs_of order).room at.drive.head (length tape.old) ≡ true }
-    ensures { acted result tape.new ≡ ordered (seat at.port at.drive tape.old) order }
+fn carry_out(at: At, tape: &mut [u8], order: Order) -> Moved
+    requires { has_room (row_for order).room at.drive.head (length tape.old) ≡ true }
+    ensures { acted result tape.new ≡ ordered (seat at.port at.drive tape.old) (Some order) }
 {
-    let Some(order) = order else {
-        return at.rests(false, at.drive);
-    };
     match order {
         Order::Select(n) => leaves(false, at.port.at_drive(n), at.drive.select()),
-        Order::Bot => at.rests(false, at.drive.rewind()),
+        Order::Bot | Order::Initialize => at.rests(false, at.drive.rewind()),
         Order::Erase => erase(at, tape),
-        Order::Initialize => at.rests(false, at.drive.rewind()),
         Order::Write => write(at, tape),
         Order::WriteMark => write_mark(at, tape),
         Order::Read => read(at, tape),
@@ -94,11 +90,12 @@ pub fn command(at: At, tape: &mut [u8], code: u8) -> Moved
         ≡ commanded (seat at.port at.drive tape.old) (order_of code) (fault_of (seat at.port at.drive tape.old) (order_of code)) }
 {
     let order = order_of(code);
-    match fault_of(at.port.online, at.drive, tape.len(), needs_of(order)) {
-        Ok(()) => carry_out(at, tape, order),
-        Err(Fault::Illegal) => at.rests(true, at.drive.latch(Bit::Ill)),
-        Err(Fault::Empty) => at.rests(true, at.drive.latch(Bit::Cni)),
-        Err(Fault::Plugged) => at.rests(true, at.drive.raise()),
-        Err(Fault::Full) => at.rests(true, at.drive.stop(Bit::Eom)),
+    let tested = fault_of(at.port.online, at.drive, tape.len(), needs_of(order));
+    match (order, tested) {
+        (Some(order), Ok(())) => carry_out(at, tape, order),
+        (None, _) | (_, Err(Fault::Illegal)) => at.rests(true, at.drive.latch(Bit::Ill)),
+        (_, Err(Fault::Empty)) => at.rests(true, at.drive.latch(Bit::Cni)),
+        (_, Err(Fault::Plugged)) => at.rests(true, at.drive.raise()),
+        (_, Err(Fault::Full)) => at.rests(true, at.drive.stop(Bit::Eom)),
     }
 }

@@ -18,11 +18,7 @@ fn put(staging: &mut [u8], n: usize, byte: u8)
     requires { length staging.old ≡ body_size }
     ensures { staging.new ≡ staged_byte n byte staging.old }
 {
-    if n < LAST_PLACE {
-        staging[n] = byte;
-    } else {
-        staging[LAST_PLACE] = byte;
-    }
+    staging[n.min(LAST_PLACE)] = byte;
 }
 
 // The staging block as the act is to find it: a byte given is in it.

@@ -48,7 +48,7 @@ fn take_next(at: At, tape: &[u8], n: usize) -> Moved
     }
 }
 
-// It goes out, and the one behind it is next.
+// The octet goes out, and the one behind it is next.
 fn take_octet(at: At, k: usize) -> Moved
     ensures { (t : List ℕ) → acted result t ≡ octet_taken (seat at.port at.drive t) k }
 {

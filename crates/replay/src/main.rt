@@ -15,7 +15,7 @@ const TAPE: usize = 16384;
 // The bytes that are read or written at a time.
 const PIECE: usize = 65536;
 
-// The bytes of input that are not run yet, and whether no more will come.
+// The bytes of input that are not run yet, and whether no more will come. Offsets beside the lent buffer: what is left can move to its front.
 #[derive(Clone, Copy)]
 struct Piece {
     from: usize,
@@ -23,7 +23,7 @@ struct Piece {
     ending: bool,
 }
 
-// Writes to standard output, or says why it cannot; then nothing more is run.
+// Writes to standard output, or says why it cannot; then nothing more is run, and there is no error left to hand on.
 fn write<R: Print + Eprint>(rt: &R, text: &[u8]) -> Option<()> {
     match rt.write_all(text) {
         Ok(()) => Some(()),
@@ -90,6 +90,7 @@ fn replay<R: Input + Print + Eprint>(
         to: 0,
         ending: false,
     };
+    // A range and no `loop`: each function is proved to end, and how much input comes is not known.
     for _ in 0..u64::MAX {
         let run = trace::play(
             core,

@@ -2,7 +2,7 @@
 ghost use Rattle.std.specs.Prelude.{◌≡◌, ◌≤◌};
 ghost use Rattle.rules.specs.Octets.{bit, high, low, octets_of};
 
-use rules::{Counter, Drive, OCTETS};
+use rules::{Counter, Drive, Errors, OCTETS, Underruns};
 
 // The places of the bits in an octet, by their weights.
 const BIT_0: u8 = 1;
@@ -28,17 +28,19 @@ fn bit(weight: u8, stands: bool) -> u8
     if stands { weight } else { 0 }
 }
 
-// Octets 2 to 5 see one counter alone: 2 and 3 the errors, 4 and 5 the underruns.
+// Octets 2 to 5 see one counter alone, which each call names: 2 and 3 the errors, 4 and 5 the underruns. Two functions: the book has two words.
 fn high<C: Counter>(counter: C) -> u8
     ensures { result ≡ high (C.number counter) }
 {
-    (counter.number() / 256) as u8
+    let [high, _] = counter.number().to_be_bytes();
+    high
 }
 
 fn low<C: Counter>(counter: C) -> u8
     ensures { result ≡ low (C.number counter) }
 {
-    (counter.number() % 256) as u8
+    let [_, low] = counter.number().to_be_bytes();
+    low
 }
 
 // Octets 1 and 0 as section 5 of QIC-02 Rev D lists them, a line for each bit from bit 0 to bit 7: its name, its place, where it comes from.
@@ -71,9 +73,9 @@ pub fn octets(drive: Drive) -> [u8; OCTETS]
     [
         octet0,
         octet1,
-        high(drive.errors),
-        low(drive.errors),
-        high(drive.underruns),
-        low(drive.underruns),
+        high::<Errors>(drive.errors),
+        low::<Errors>(drive.errors),
+        high::<Underruns>(drive.underruns),
+        low::<Underruns>(drive.underruns),
     ]
 }

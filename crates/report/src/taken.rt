@@ -4,14 +4,11 @@ ghost use Rattle.rules.specs.Bytes.{octet_place, after_octet};
 
 use rules::{OCTETS, Phase, Port};
 
-// The place of the next octet where k are outstanding.
+// The place of the next octet where k are outstanding. For any k, since a record may hold any number of them: above six it is the first.
 fn octet_place(k: usize) -> usize
     ensures { (result ≡ octet_place k) × (result < 6) }
 {
-    if k <= 1 {
-        return OCTETS - 1;
-    }
-    if k <= OCTETS { OCTETS - k } else { 0 }
+    OCTETS.saturating_sub(k.max(1))
 }
 
 // After the sixth, Rest.

@@ -34,7 +34,7 @@ use Rattle.rules.specs.Drive.{is_writing, is_reading, writes, reads, rewound, ch
 use Rattle.rules.specs.Late.{begun, one_less, block_room}
 use Rattle.rules.specs.Unit.{at_phase, at_drive, at_level, showing}
 use Rattle.rules.specs.Refusal.{possible_phase, takes, gives, in_step_at}
-use Rattle.rules.specs.Order.{order_of, needs_of, in_sequence, test5, test6, has_room, illegal, first_fault, fault_by}
+use Rattle.rules.specs.Order.{order_of, row_for, in_sequence, test5, test6, has_room, illegal, first_fault, fault_by}
 use Rattle.rules.specs.Edge.{is_block, halted, spoilt, checked, standing}
 use Rattle.rules.specs.Octets.{octets_of}
 use Rattle.rules.specs.Effect.{Seat, Acted, leaves, hands, with_mark, with_block, resting, ordered, fault_of, commanded}
@@ -49,22 +49,21 @@ use Rattle.rules.proofs.Sound.{SoundSeat}
 use Rattle.rules.proofs.Codes.{select_real, erase_code, write_code, mark_code, status_code}
 
 -- What an order that passed the tests has shown.
-pub record Passes (s : Seat) (o : Option Order) : Type 0 where
-  pub sequence : in_sequence s.drive.mode (needs_of o) ≡ true
-  pub cartridge : test5 s.drive (needs_of o) ≡ false
-  pub plug : test6 s.drive (needs_of o) ≡ false
-  pub room : has_room (needs_of o).room s.drive.head (length s.tape) ≡ true
+pub record Passes (s : Seat) (o : Order) : Type 0 where
+  pub sequence : in_sequence s.drive.mode (row_for o) ≡ true
+  pub cartridge : test5 s.drive (row_for o) ≡ false
+  pub plug : test6 s.drive (row_for o) ≡ false
+  pub room : has_room (row_for o).room s.drive.head (length s.tape) ≡ true
 
 pub data Does (g : List ℕ) (s : Seat) : Act → Acted → Type 0 where
   -- orders that passed the tests
-  nothing : (c : ℕ) → Does g s (Command c) (leaves false (resting s) s.drive s.tape)
   selects : (c n : ℕ) → n ≤ 3 → order_of c ≡ Some (Select n) → Does g s (Command c) (leaves false (at_drive n s.port) (chosen s.drive) s.tape)
   rewinds : (c : ℕ) → s.drive.mode ≡ Idle → Does g s (Command c) (leaves false (resting s) (rewound s.drive) s.tape)
-  erases : Passes s (Some Erase) → Does g s (Command 34) (leaves false (resting s) (rewound s.drive) (erased s.tape))
-  sets_writing : Passes s (Some Write) → Does g s (Command 64) (leaves false (resting s) (begun (length s.tape) s.drive) s.tape)
-  records_mark : Passes s (Some WriteMark)
+  erases : Passes s Erase → Does g s (Command 34) (leaves false (resting s) (rewound s.drive) (erased s.tape))
+  sets_writing : Passes s Write → Does g s (Command 64) (leaves false (resting s) (begun (length s.tape) s.drive) s.tape)
+  records_mark : Passes s WriteMark
       → Does g s (Command 96) (leaves false (resting s) (in_mode Idle (made (s.drive.head + 1) s.drive)) (with_mark s.drive s.tape))
-  sets_reading : (c : ℕ) → Passes s (Some Read)
+  sets_reading : (c : ℕ) → Passes s Read
       → Does g s (Command c) (leaves (checked s.tape (in_mode Reading s.drive)).raised (resting s)
       (checked s.tape (in_mode Reading s.drive)).drive s.tape)
   searches : (c : ℕ) → Does g s (Command c) (leaves true (resting s) (standing (passed s.tape s.drive.head) s.drive) s.tape)
@@ -115,34 +114,33 @@ by_test false f h = h refl
 -- what is legal is in sequence; what only Idle takes finds the drive Idle
 in_sequence_lem : (online : Bool) (d : Drive) (n : Needs) → illegal online d n ≡ false → in_sequence d.mode n ≡ true
 unfolding illegal
-in_sequence_lem online d n h = third (d.exception && not n.status) (not n.known) (in_sequence d.mode n) (n.online && not online) h
+in_sequence_lem online d n h = second (d.exception && not n.status) (in_sequence d.mode n) (n.online && not online) h
   where
-    third : (a b c e : Bool) → (a || (b || (not c || e))) ≡ false → c ≡ true
-    third true b c e h = cc
-    third false true c e h = cc
-    third false false true e h = refl
-    third false false false e h = cc
+    second : (a b c : Bool) → (a || (not b || c)) ≡ false → b ≡ true
+    second true b c h = cc
+    second false true c h = refl
+    second false false c h = cc
 
 pub only_idle : (m : Mode) (n : Needs) → n.writing ≡ false → n.reading ≡ false → in_sequence m n ≡ true → m ≡ Idle
 only_idle Idle n w r h = refl
 only_idle Writing n w r h = absurd (false≢true (sym w ∙ h))
 only_idle Reading n w r h = absurd (false≢true (sym r ∙ h))
 
-passes : (s : Seat) (o : Option Order) → fault_of s o ≡ Ok tt → Passes s o
+passes : (s : Seat) (o : Order) → fault_of s (Some o) ≡ Ok tt → Passes s o
 unfolding fault_of fault_by pick
 passes s o =
-    go (illegal s.port.online s.drive (needs_of o)) (test5 s.drive (needs_of o)) (test6 s.drive (needs_of o))
-    (has_room (needs_of o).room s.drive.head (length s.tape)) refl refl refl refl
+    go (illegal s.port.online s.drive (row_for o)) (test5 s.drive (row_for o)) (test6 s.drive (row_for o))
+    (has_room (row_for o).room s.drive.head (length s.tape)) refl refl refl refl
   where
-    go : (i e p r : Bool) → illegal s.port.online s.drive (needs_of o) ≡ i → test5 s.drive (needs_of o) ≡ e
-        → test6 s.drive (needs_of o) ≡ p → has_room (needs_of o).room s.drive.head (length s.tape) ≡ r
+    go : (i e p r : Bool) → illegal s.port.online s.drive (row_for o) ≡ i → test5 s.drive (row_for o) ≡ e
+        → test6 s.drive (row_for o) ≡ p → has_room (row_for o).room s.drive.head (length s.tape) ≡ r
         → first_fault i e p r ≡ Ok tt → Passes s o
     go true e p r qi qe qp qr h = record { sequence = cc; cartridge = cc; plug = cc; room = cc }
     go false true p r qi qe qp qr h = record { sequence = cc; cartridge = cc; plug = cc; room = cc }
     go false false true r qi qe qp qr h = record { sequence = cc; cartridge = cc; plug = cc; room = cc }
     go false false false false qi qe qp qr h = record { sequence = cc; cartridge = cc; plug = cc; room = cc }
     go false false false true qi qe qp qr h =
-        record { sequence = in_sequence_lem s.port.online s.drive (needs_of o) qi; cartridge = qe; plug = qp; room = qr }
+        record { sequence = in_sequence_lem s.port.online s.drive (row_for o) qi; cartridge = qe; plug = qp; room = qr }
 
 pub writing_is : (m : Mode) → is_writing m ≡ true → m ≡ Writing
 writing_is Idle h = cc
@@ -179,20 +177,21 @@ full_place (Giving n) m k h = absurd (omega (arith, h))
 full_place (Status n) m k h = absurd (omega (arith, h))
 
 module _ (g : List ℕ) (s : Seat) (ok : SoundSeat s) where
-  ordered_does : (c : ℕ) (o : Option Order) → order_of c ≡ o → Passes s o → Does g s (Command c) (ordered s o)
-  ordered_does c None e p = nothing c
-  ordered_does c (Some (Select n)) e p = selects c n (select_real c n e) e
-  ordered_does c (Some Bot) e p = rewinds c (only_idle s.drive.mode (needs_of (Some Bot)) refl refl p.sequence)
-  ordered_does c (Some Erase) e p = rw (erase_code c e) (erases p)
-  ordered_does c (Some Initialize) e p = rewinds c (only_idle s.drive.mode (needs_of (Some Initialize)) refl refl p.sequence)
-  ordered_does c (Some Write) e p = rw (write_code c e) (sets_writing p)
-  ordered_does c (Some WriteMark) e p = rw (mark_code c e) (records_mark p)
-  ordered_does c (Some Read) e p = sets_reading c p
-  ordered_does c (Some ReadMark) e p = searches c
-  ordered_does c (Some ReadStatus) e p = rw (status_code c e) reports
+  ordered_does : (c : ℕ) (o : Order) → order_of c ≡ Some o → Passes s o → Does g s (Command c) (ordered s (Some o))
+  ordered_does c (Select n) e p = selects c n (select_real c n e) e
+  ordered_does c Bot e p = rewinds c (only_idle s.drive.mode (row_for Bot) refl refl p.sequence)
+  ordered_does c Erase e p = rw (erase_code c e) (erases p)
+  ordered_does c Initialize e p = rewinds c (only_idle s.drive.mode (row_for Initialize) refl refl p.sequence)
+  ordered_does c Write e p = rw (write_code c e) (sets_writing p)
+  ordered_does c WriteMark e p = rw (mark_code c e) (records_mark p)
+  ordered_does c Read e p = sets_reading c p
+  ordered_does c ReadMark e p = searches c
+  ordered_does c ReadStatus e p = rw (status_code c e) reports
 
   commanded_does : (c : ℕ) (o : Option Order) → order_of c ≡ o → (f : Result (Unit {0}) Fault) → fault_of s o ≡ f → Does g s (Command c) (commanded s o f)
-  commanded_does c o e (Ok u) h = ordered_does c o e (passes s o h)
+  unfolding fault_of fault_by
+  commanded_does c None e (Ok u) h = cc
+  commanded_does c (Some o) e (Ok u) h = ordered_does c o e (passes s o h)
   commanded_does c o e (Err Illegal) h = faults c Ill
   commanded_does c o e (Err Empty) h = faults c Cni
   commanded_does c o e (Err Plugged) h = meets_plug c

@@ -173,7 +173,6 @@ module _ (g : List ℕ) (w512 : length g ≡ 512) (s : Seat) (ok : SoundSeat s) 
       }
 
   pub does_good : (a : Act) (m : Acted) → Acts.Does g s a m → Good s m
-  does_good a m (Acts.nothing c) = quiet m refl refl refl ok.fit
   does_good a m (Acts.selects c n l e) =
       record { fit = record { near = ok.fit.near; mode = ok.fit.mode; late = ok.fit.late }; long = refl; land = rests refl l; plug = λ _. refl; slot = λ _. refl }
   does_good a m (Acts.rewinds c i) = quiet m refl refl refl (fit_head s.drive 0 ok.fit zero-le)

@@ -30,7 +30,7 @@ use Rattle.rules.specs.Drive.{is_writing, in_mode, passed_to}
 use Rattle.rules.specs.Late.{allowed_at}
 use Rattle.rules.specs.Unit.{Lent, drive_at, tape_at}
 use Rattle.rules.specs.Event.{event_of}
-use Rattle.rules.specs.Order.{needs_of}
+use Rattle.rules.specs.Order.{row_for}
 use Rattle.rules.specs.Refusal.{slot_answer, refusal_in}
 use Rattle.rules.specs.Edge.{halted, spoilt, edged, checked_by, checked, standing}
 use Rattle.rules.specs.Slot.{befallen}
@@ -116,11 +116,10 @@ module _ (c : Core) (l : Lent) (event : List ℕ) where
 
   own_late : (g : List ℕ) → Fit d → (a : Act) (m : Acted) → event_of event ≡ Some (Own a) → answer_to c l event ≡ pick m.moved.raised Raised Taken
       → Acts.Does g (seat_of c l) a m → LateMove c l event n d m.moved.drive
-  own_late g f a m q h (Acts.nothing k) = still n d _ f refl refl (λ _. refl)
   own_late g f a m q h (Acts.selects k j r e) = still n d _ f refl refl (λ _. refl)
   own_late g f a m q h (Acts.rewinds k i) = still n d _ f refl refl (λ w. absurd (quits d.mode (ap is_writing i) w))
   own_late g f a m q h (Acts.erases p) =
-      still n d _ f refl refl (λ w. absurd (quits d.mode (ap is_writing (only_idle d.mode (needs_of (Some Erase)) refl refl p.sequence)) w))
+      still n d _ f refl refl (λ w. absurd (quits d.mode (ap is_writing (only_idle d.mode (row_for Erase) refl refl p.sequence)) w))
   own_late g f a m q h (Acts.sets_writing p) =
       begun refl (record { order = q; answer = h ∙ quiet_answer false refl }) (allowed_is d.head (length t))
   own_late g f a m q h (Acts.records_mark p) = off n d _ (record { mode = refl; late = refl })

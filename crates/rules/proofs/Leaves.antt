@@ -244,7 +244,6 @@ module _ (g : List ℕ) (s : Seat) where
       }
 
   pub does_leaf : (a : Act) (m : Acted) → Acts.Does g s a m → Leaf a m
-  does_leaf a m (Acts.nothing c) = silent a m (as_was m refl refl refl refl refl) kept refl (other a m refl)
   does_leaf a m (Acts.selects c k l e) = silent a m (as_was m refl refl refl refl refl) kept refl (other a m refl)
   does_leaf a m (Acts.rewinds c i) = silent a m (as_was m refl refl refl refl refl) kept refl (other a m refl)
   does_leaf a m (Acts.erases p) = silent a m (as_was m refl refl refl refl refl) (erases refl refl) refl (other a m refl)

@@ -5,7 +5,7 @@ use mathlib.Core.Bool.{Bool, true, false, not, ◌&&◌, ◌||◌}
 use mathlib.Core.List.{[], ◌∷◌, ◌++◌}
 use lib.Dec.{leb, eqb}
 use lib.ListN.{length}
-use Rattle.std.specs.Prelude.{Result, Ok, Err, None, Some}
+use Rattle.std.specs.Prelude.{Result, Ok, Err, Option, None, Some}
 use Rattle.basis.specs.Choice.{pick}
 use Rattle.rules.specs.declared.drive.Mode.{Mode}
 use Rattle.rules.specs.declared.drive.Mode.TheVariants.{Idle, Writing, Reading}
@@ -13,14 +13,17 @@ use Rattle.rules.specs.declared.order.Order.TheVariants.{ReadStatus}
 use Rattle.rules.specs.declared.order.Needs.{Needs}
 use Rattle.rules.specs.declared.order.Fault.{Fault}
 use Rattle.rules.specs.declared.order.Fault.TheVariants.{Full}
-use Rattle.rules.specs.Order.{order_of, needs_of, in_sequence, has_room, illegal, first_fault, fault_by}
+use Rattle.rules.specs.Order.{order_of, row_for, needs_of, in_sequence, has_room, illegal, first_fault, fault_by}
 use Rattle.rules.specs.Effect.{fault_of}
-use Rattle.rules.specs.Promises.Orders.{among, selecting, moving, taping, telling, fits3, room_asked, FirstTestDecides, StatusPasses}
-use Rattle.rules.proofs.Codes.{NoCode, by_code}
+use Rattle.rules.specs.Promises.Orders.{among, selecting, moving, taping, telling, fits1, fits3, fits4, room_asked, decided, FirstTestDecides, StatusPasses}
+use Rattle.rules.proofs.Codes.{by_code}
 
--- What the row of an order says, by its code.
+-- What the row of an order says, by its code; a code without a row is none of them.
+abbrev is_code : ℕ → Bool
+is_code k = among k (selecting ++ (moving ++ (taping ++ telling)))
+
 record Row (k : ℕ) (n : Needs) : Type 0 where
-  known : n.known ≡ among k (selecting ++ (moving ++ (taping ++ telling)))
+  known : is_code k ≡ true
   status : n.status ≡ among k telling
   writing : n.writing ≡ among k (96 ∷ 192 ∷ [])
   reading : n.reading ≡ among k (160 ∷ 192 ∷ [])
@@ -29,38 +32,14 @@ record Row (k : ℕ) (n : Needs) : Type 0 where
   plug : n.plug ≡ among k (34 ∷ 64 ∷ 96 ∷ [])
   room : n.room ≡ room_asked k
 
-row_none : (k : ℕ) → NoCode k → Row k (needs_of None)
-unfolding pick
-row_none k n =
-    record {
-      known =
-          rw (
-            n.not1,
-            n.not2,
-            n.not4,
-            n.not8,
-            n.not33,
-            n.not34,
-            n.not36,
-            n.not64,
-            n.not96,
-            n.not128,
-            n.not160,
-            n.not192,
-          );
-      status = rw n.not192;
-      writing = rw (n.not96, n.not192);
-      reading = rw (n.not160, n.not192);
-      online = rw (n.not64, n.not96, n.not128, n.not160);
-      cartridge = rw (n.not33, n.not34, n.not36, n.not64, n.not96, n.not128, n.not160);
-      plug = rw (n.not34, n.not64, n.not96);
-      room = rw (n.not64, n.not96);
-    }
+abbrev RowOf : ℕ → Option Needs → Type 0
+RowOf k None = is_code k ≡ false
+RowOf k (Some n) = Row k n
 
-row_of : (k : ℕ) → Row k (needs_of (order_of k))
+row_of : (k : ℕ) → RowOf k (needs_of (order_of k))
 unfolding pick
 row_of =
-    by_code (λ k o. Row k (needs_of o))
+    by_code (λ k o. RowOf k (needs_of o))
     (record {
       at1 = record { known = refl; status = refl; writing = refl; reading = refl; online = refl; cartridge = refl; plug = refl; room = refl };
       at2 = record { known = refl; status = refl; writing = refl; reading = refl; online = refl; cartridge = refl; plug = refl; room = refl };
@@ -75,7 +54,7 @@ row_of =
       at160 = record { known = refl; status = refl; writing = refl; reading = refl; online = refl; cartridge = refl; plug = refl; room = refl };
       at192 = record { known = refl; status = refl; writing = refl; reading = refl; online = refl; cartridge = refl; plug = refl; room = refl };
     })
-    row_none
+    (λ k n. rw (n.not1, n.not2, n.not4, n.not8, n.not33, n.not34, n.not36, n.not64, n.not96, n.not128, n.not160, n.not192))
 
 sequence : (k : ℕ) (n : Needs) → Row k n → (m : Mode) → not (in_sequence m n) ≡ fits3 m k
 sequence k n r Idle = refl
@@ -97,21 +76,29 @@ unfolding pick
 room_or_none true = refl
 room_or_none false = refl
 
+-- an unknown code is illegal, whatever the tests beside it say
+second_fits : (a b : Bool) → (a || (true || b)) ≡ true
+second_fits true b = refl
+second_fits false b = refl
+
 pub first_test_decides : FirstTestDecides
-unfolding fault_of fault_by illegal
-first_test_decides s k =
-    let r = row_of k in
-    rw (
-      r.status,
-      r.known,
-      sequence k (needs_of (order_of k)) r s.drive.mode,
-      r.online,
-      r.cartridge,
-      r.plug,
-      r.room,
-      room_or_none (has_room (room_asked k) s.drive.head (length s.tape)),
-      room_asked_lem k s.drive.head (length s.tape),
-    )
+unfolding fault_of fault_by illegal pick
+first_test_decides s k = go (needs_of (order_of k)) (row_of k)
+  where
+    go : (n : Option Needs) → RowOf k n → fault_by s.port.online s.drive (length s.tape) n ≡ decided s k
+    go None r = rw (r, second_fits (fits1 s.drive k) (fits3 s.drive.mode k || fits4 s.port.online k))
+    go (Some n) r =
+        rw (
+          sequence k n r s.drive.mode,
+          r.status,
+          r.known,
+          r.online,
+          r.cartridge,
+          r.plug,
+          r.room,
+          room_or_none (has_room (room_asked k) s.drive.head (length s.tape)),
+          room_asked_lem k s.drive.head (length s.tape),
+        )
 
 -- ---- READ STATUS
 
@@ -119,7 +106,7 @@ pub status_passes : StatusPasses
 unfolding fault_of fault_by illegal pick
 status_passes s = go s.drive.exception s.drive.mode
   where
-    go : (e : Bool) (m : Mode) → first_fault (e && false || (false || (not (in_sequence m (needs_of (Some ReadStatus))) || false))) false false true ≡ Ok tt
+    go : (e : Bool) (m : Mode) → first_fault (e && false || (not (in_sequence m (row_for ReadStatus)) || false)) false false true ≡ Ok tt
     go true Idle = refl
     go true Writing = refl
     go true Reading = refl

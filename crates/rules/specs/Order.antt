@@ -35,29 +35,29 @@ write_room = block_size + kept_late
 abbrev pub mark_room : ℕ
 mark_room = 1
 
--- A row of needs. The columns: a known code; READ STATUS; Writing takes it; Reading takes it; ONLINE; a cartridge; an open plug; room.
-abbrev pub needs : Bool → Bool → Bool → Bool → Bool → Bool → Bool → ℕ → Needs
-needs k s w r o c p n = record { known = k; status = s; writing = w; reading = r; online = o; cartridge = c; plug = p; room = n }
+-- A row of needs. The columns: READ STATUS; Writing takes it; Reading takes it; ONLINE; a cartridge; an open plug; room.
+abbrev pub needs : Bool → Bool → Bool → Bool → Bool → Bool → ℕ → Needs
+needs s w r o c p n = record { status = s; writing = w; reading = r; online = o; cartridge = c; plug = p; room = n }
 
-abbrev pub needs_of : Option Order → Needs
-needs_of None = needs false false false false false false false 0
-needs_of (Some (Select n)) = needs true false false false false false false 0
-needs_of (Some Bot) = needs true false false false false true false 0
-needs_of (Some Erase) = needs true false false false false true true 0
-needs_of (Some Initialize) = needs true false false false false true false 0
-needs_of (Some Write) = needs true false false false true true true write_room
-needs_of (Some WriteMark) = needs true false true false true true true mark_room
-needs_of (Some Read) = needs true false false false true true false 0
-needs_of (Some ReadMark) = needs true false false true true true false 0
-needs_of (Some ReadStatus) = needs true true true true false false false 0
+abbrev pub row_for : Order → Needs
+row_for (Select n) = needs false false false false false false 0
+row_for Bot = needs false false false false true false 0
+row_for Erase = needs false false false false true true 0
+row_for Initialize = needs false false false false true false 0
+row_for Write = needs false false false true true true write_room
+row_for WriteMark = needs false true false true true true mark_room
+row_for Read = needs false false false true true false 0
+row_for ReadMark = needs false false true true true false 0
+row_for ReadStatus = needs true true true false false false 0
 
 -- 1. EXCEPTION up, and not READ STATUS.
 abbrev pub test1 : Drive → Needs → Bool
 test1 d n = d.exception && not n.status
 
--- 2. Unknown code.
-abbrev pub test2 : Needs → Bool
-test2 n = not n.known
+-- 2. Unknown code: it has no row.
+abbrev pub needs_of : Option Order → Option Needs
+needs_of None = None
+needs_of (Some o) = Some (row_for o)
 
 -- 3. Sequence. Idle takes all; Writing and Reading take what their column says.
 abbrev pub in_sequence : Mode → Needs → Bool
@@ -84,13 +84,14 @@ test6 d n = n.plug && d.protected
 abbrev pub has_room : ℕ → ℕ → ℕ → Bool
 has_room room h length = eqb room 0 || leb (h + room) length
 
--- 1 to 4 are illegal.
+-- 1 to 4 are illegal: 2 by `fault_by`, the others here.
 unfoldable pub illegal : Bool → Drive → Needs → Bool
-illegal online d n = test1 d n || (test2 n || (test3 d n || test4 online n))
+illegal online d n = test1 d n || (test3 d n || test4 online n)
 
 -- The first that fits decides; `Ok tt` where none does.
 abbrev pub first_fault : Bool → Bool → Bool → Bool → Result (Unit {0}) Fault
 first_fault ill empty plugged room = pick ill (Err Illegal) (pick empty (Err Empty) (pick plugged (Err Plugged) (pick room (Ok tt) (Err Full))))
 
-unfoldable pub fault_by : Bool → Drive → ℕ → Needs → Result (Unit {0}) Fault
-fault_by online d length n = first_fault (illegal online d n) (test5 d n) (test6 d n) (has_room n.room d.head length)
+unfoldable pub fault_by : Bool → Drive → ℕ → Option Needs → Result (Unit {0}) Fault
+fault_by online d length None = Err Illegal
+fault_by online d length (Some n) = first_fault (illegal online d n) (test5 d n) (test6 d n) (has_room n.room d.head length)

@@ -17,7 +17,7 @@ pub enum Answer {
 }
 
 impl Answer {
-    // Document 01's number of an answer.
+    // Document 01's number of an answer. A method and no `From`: a column of the table of answers, as the two below.
     pub fn number(self) -> u8
         ensures { result ≡ (row_of self).number }
     {
@@ -39,7 +39,7 @@ impl Answer {
     }
 }
 
-#[derive(Clone, Copy)]
+#[derive(Clone, Copy, Default)]
 pub struct Lines {
     pub ready: bool,
     pub exception: bool,

@@ -1,5 +1,5 @@
 // One drive's record and its moves: each takes the record and hands it back changed.
-ghost use Rattle.std.specs.Prelude.{◌≡◌, ◌-◌};
+ghost use Rattle.std.specs.Prelude.{◌≡◌};
 ghost use Rattle.rules.specs.Drive.{is_writing, is_reading, with_bit, no_bits, fresh_drive, was_reset, rewound, chosen, raised, latching, stopping};
 ghost use Rattle.rules.specs.Drive.{in_mode, allowing, made, passed_to, cleared, counted, loaded_with, pulled, writes, reads};
 ghost use Rattle.rules.specs.Late.{one_less};
@@ -103,13 +103,6 @@ pub fn one_more(n: u16) -> u16
     n.saturating_add(1)
 }
 
-// One less, where there is one.
-pub fn less(n: u8) -> u8
-    ensures { result ≡ n - 1 }
-{
-    n.saturating_sub(1)
-}
-
 impl Drive {
     // A fresh drive: no cartridge, POR latched, EXCEPTION up.
     pub fn fresh() -> Drive
@@ -146,7 +139,7 @@ impl Drive {
     pub fn one_less(self) -> Drive
         ensures { result ≡ one_less self }
     {
-        self.allow(less(self.late))
+        self.allow(self.late.saturating_sub(1))
     }
 
     // RESET: as fresh, but for the cartridge and its plug.
@@ -252,7 +245,7 @@ impl Drive {
         .rewind()
     }
 
-    // Writing without EXCEPTION: the drive takes data.
+    // Writing without EXCEPTION: the drive takes data. Apart from `reads`: the book has a word for each.
     pub fn writes(self) -> bool
         ensures { result ≡ writes self }
     {

@@ -19,6 +19,7 @@ pub enum What {
     Underrun,
 }
 
+// A drive's number is a byte, as in `Port`.
 #[derive(Clone, Copy)]
 pub enum Event {
     Reset,

@@ -1,6 +1,7 @@
 // The orders, what each needs, and what the tests and the edge check find.
 use crate::drive::Drive;
 
+// SELECT has its drive's number, a byte as in `Port`.
 #[derive(Clone, Copy)]
 pub enum Order {
     Select(u8),
@@ -14,11 +15,10 @@ pub enum Order {
     ReadStatus,
 }
 
-// A row for each order: a known code; READ STATUS; taken in Writing; taken in Reading; what it needs of the line, the slot and the plug;
-// the room it asks for.
-#[derive(Clone, Copy)]
+// A row for each order, and none for an unknown code: READ STATUS; taken in Writing; taken in Reading; what it needs of the line, the slot
+// and the plug; the room it asks for, 0 for who asks for none, as the book's column is a number.
+#[derive(Clone, Copy, Default)]
 pub struct Needs {
-    pub known: bool,
     pub status: bool,
     pub writing: bool,
     pub reading: bool,

@@ -30,20 +30,22 @@ impl Phase {
         self.at_rest() | self.is_status()
     }
 
-    // How many bytes of a block were given before, or taken; how many octets are outstanding. Each is 0 where there is none, and no `Option`:
-    // a block that has not begun goes on at place 0. Three methods, since each reads another variant.
+    // Bytes of a block given before: 0 and no `Option` outside of one, since a block that has not begun goes on at place 0.
+    // Three methods, here and below, since each reads another variant.
     pub fn given_before(self) -> usize
         ensures { result ≡ given_before self }
     {
         if let Phase::Taking(n) = self { n } else { 0 }
     }
 
+    // Bytes of a block taken before: 0 outside of one, for the same reason.
     pub fn taken_before(self) -> usize
         ensures { result ≡ taken_before self }
     {
         if let Phase::Giving(n) = self { n } else { 0 }
     }
 
+    // Octets outstanding: 0 where there are none. An `Option` would have two words for that, since a record may hold `Status(0)`.
     pub fn outstanding(self) -> usize
         ensures { result ≡ outstanding self }
     {
@@ -62,14 +64,12 @@ impl Phase {
         }
     }
 
-    // The number that each has: of bytes so far, of octets outstanding, 0 at Rest.
+    // The number that each has, of bytes so far or of octets outstanding: C's record has one in every phase, 0 at Rest.
     pub fn how_far(self) -> usize
         ensures { result ≡ how_far self }
     {
         match self {
-            Phase::Taking(n) => n,
-            Phase::Giving(n) => n,
-            Phase::Status(k) => k,
+            Phase::Taking(n) | Phase::Giving(n) | Phase::Status(n) => n,
             Phase::Rest => 0,
         }
     }

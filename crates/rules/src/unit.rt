@@ -1,6 +1,6 @@
 // The unit's record: what the cable and the selected drive share, four drives, and the staging block.
 ghost use Rattle.std.specs.Prelude.{◌≡◌};
-ghost use Rattle.rules.specs.Unit.{at_phase, at_level, at_drive, showing, reset_port, fresh_port};
+ghost use Rattle.rules.specs.Unit.{at_phase, at_level, at_drive, showing, fresh_port};
 ghost use Rattle.rules.specs.Unit.{drive_at, put_drive, fresh_core, reset_core, fresh_unit};
 
 use crate::OCTETS;
@@ -9,7 +9,7 @@ use crate::phase::Phase;
 use tape::BODY;
 
 // The selected drive is a byte and no enum: a record may hold any, and a number above 3 is answered 5.
-// Small enough that what a step hands back has 128 bytes: above that a copy is a call.
+// Small, since what a step hands back is copied with each event. The octets are an array, and how many are outstanding is in the phase.
 #[derive(Clone, Copy)]
 pub struct Port {
     pub phase: Phase,
@@ -28,6 +28,7 @@ pub struct Core {
     pub drive3: Drive,
 }
 
+// An array of a fixed size, and how far it is filled in the phase: document 01 asks for the staging array, and there is no heap.
 #[derive(Clone, Copy)]
 pub struct Unit {
     pub core: Core,
@@ -44,6 +45,7 @@ pub struct Moved {
     pub byte: Option<u8>,
 }
 
+// Each move, of a port and of a core, changes a copy of the whole: by struct update, field by field, a block taken misses its bar (docs/SPEED.md).
 impl Port {
     pub fn fresh() -> Port
         ensures { result ≡ fresh_port }
@@ -60,37 +62,36 @@ impl Port {
     pub fn at_phase(self, phase: Phase) -> Port
         ensures { result ≡ at_phase phase self }
     {
-        Port { phase, ..self }
+        let mut p = self;
+        p.phase = phase;
+        p
     }
 
     // ONLINE at another level, at Rest.
     pub fn at_level(self, online: bool) -> Port
         ensures { result ≡ at_level online self }
     {
-        Port {
-            online,
-            ..self.at_phase(Phase::Rest)
-        }
+        let mut p = self.at_phase(Phase::Rest);
+        p.online = online;
+        p
     }
 
     // Another drive selected, at Rest.
     pub fn at_drive(self, selected: u8) -> Port
         ensures { result ≡ at_drive selected self }
     {
-        Port {
-            selected,
-            ..self.at_phase(Phase::Rest)
-        }
+        let mut p = self.at_phase(Phase::Rest);
+        p.selected = selected;
+        p
     }
 
     // Six octets made, all of them outstanding.
     pub fn show(self, octets: [u8; OCTETS]) -> Port
         ensures { result ≡ showing octets self }
     {
-        Port {
-            octets,
-            ..self.at_phase(Phase::Status(OCTETS))
-        }
+        let mut p = self.at_phase(Phase::Status(OCTETS));
+        p.octets = octets;
+        p
     }
 }
 
@@ -108,7 +109,7 @@ impl Core {
         }
     }
 
-    // The record of a drive by its number.
+    // The record of a drive by its number: by `match` and no array, whose laws would ask how long it is.
     pub fn drive(self, i: u8) -> Drive
         ensures { result ≡ drive_at self i }
     {
@@ -120,32 +121,19 @@ impl Core {
         }
     }
 
-    // The port, and the record of one drive, put back.
+    // The port, and the record of one drive, put back: by `match`, for the same reason.
     pub fn put(self, port: Port, i: u8, drive: Drive) -> Core
         ensures { result ≡ put_drive self port i drive }
     {
+        let mut c = self;
+        c.port = port;
         match i {
-            0 => Core {
-                port,
-                drive0: drive,
-                ..self
-            },
-            1 => Core {
-                port,
-                drive1: drive,
-                ..self
-            },
-            2 => Core {
-                port,
-                drive2: drive,
-                ..self
-            },
-            _ => Core {
-                port,
-                drive3: drive,
-                ..self
-            },
+            0 => c.drive0 = drive,
+            1 => c.drive1 = drive,
+            2 => c.drive2 = drive,
+            _ => c.drive3 = drive,
         }
+        c
     }
 
     // RESET: drive 0 selected, Rest, each drive reset.

@@ -15,14 +15,6 @@ use Rattle.basis.specs.Choice.{pick}
 use Rattle.tape.specs.Record.{mark_record, block_record}
 use Rattle.tape.specs.Recording.{ended_at, put_in, recorded, written, written_at}
 
--- room asked of what is left of a length is room asked of the length
-pub room_left : (h n l : ℕ) → n ≤ l → leb h (l - n) ≡ leb (h + n) l
-room_left h n l e = go (leb (h + n) l) refl
-  where
-    go : (b : Bool) → leb (h + n) l ≡ b → leb h (l - n) ≡ b
-    go true r = le-leb h (l - n) (omega (arith, leb-true (h + n) l r))
-    go false r = lt-leb h (l - n) (omega (arith, leb-false (h + n) l r))
-
 -- what a test for room said
 pub roomy : (h n l : ℕ) {b : Bool} → b ≡ leb (h + n) l → b ≡ true → h + n ≤ l
 roomy h n l p q = leb-true (h + n) l (sym p ∙ q)

@@ -9,10 +9,7 @@ use crate::{BLOCK, BLOCK_SIZE, END, MARK, MARK_SIZE};
 pub fn has_room(head: usize, n: usize, length: usize) -> bool
     ensures { result ≡ leb (head + n) length }
 {
-    if length < n {
-        return false;
-    }
-    head <= length - n
+    n <= length && head <= length - n
 }
 
 // One 00 at an offset of the part, if that lies inside it.
@@ -33,7 +30,7 @@ fn put_mark(part: &mut [u8])
     end_at(part, MARK_SIZE);
 }
 
-// A block at the front of the part, and one 00 after it.
+// A block at the front of the part, and one 00 after it. A slice with its length asked for, since the staging block is lent as a slice.
 fn put_block(part: &mut [u8], body: &[u8])
     requires { (513 ≤ length part.old) × (length body.now ≡ 512) }
     ensures { part.new ≡ put_in (block_record body.now) part.old }
@@ -55,15 +52,13 @@ pub fn record_mark(tape: &mut [u8], head: usize) -> Option<usize>
 }
 
 // A block at the head, if it and the spare bytes behind it have room, and the offset just past it; else the tape as found.
+// Apart from `record_mark`, as `put_block` from `put_mark`.
 pub fn record_block(tape: &mut [u8], head: usize, body: &[u8], spare: usize) -> Option<usize>
     requires { length body.now ≡ body_size }
     ensures { written result tape.new ≡ block_written tape.old head body.now spare }
 {
-    let n = tape.len();
-    if n < spare {
-        return None;
-    }
-    if has_room(head, BLOCK_SIZE, n - spare) {
+    let room = tape.len().checked_sub(spare)?;
+    if has_room(head, BLOCK_SIZE, room) {
         put_block(&mut tape[head..], body);
         return Some(head + BLOCK_SIZE);
     }

@@ -25,16 +25,15 @@ pub enum Cut {
 }
 
 // The bytes of an event of this kind, if the kind is known.
+#[tactic(auto, using(basis::specs::Tests::tests), unfolding(basis::specs::Choice::pick, crate::specs::Cut::kind_size))]
 pub fn kind_size(kind: u8) -> Option<usize>
     ensures { (result ≡ kind_size kind) × IfSome result (λ n. n ≤ bodied_size) }
 {
-    if (FIRST_BARE <= kind) & (kind <= LAST_BARE) {
-        return Some(BARE_SIZE);
+    match kind {
+        FIRST_BARE..=LAST_BARE => Some(BARE_SIZE),
+        FIRST_KIND..=LAST_KIND => Some(BODIED_SIZE),
+        _ => None,
     }
-    if (FIRST_KIND <= kind) & (kind <= LAST_KIND) {
-        return Some(BODIED_SIZE);
-    }
-    None
 }
 
 // The size of the whole event that bytes begin with, wherever they end.
@@ -56,7 +55,7 @@ pub(crate) fn next_size(bytes: &[u8], ending: bool) -> Option<usize>
     match next_event(bytes) {
         Ok(size) => Some(size),
         Err(Cut::UnknownKind) => Some(BARE_SIZE),
-        Err(Cut::CutOff) => if ending { Some(bytes.len()) } else { None },
+        Err(Cut::CutOff) => ending.then_some(bytes.len()),
         Err(Cut::NoneLeft) => None,
     }
 }

@@ -1,4 +1,4 @@
-// One answered event as a line: number, answer, lines and byte.
+// One answered event as a line: number, answer, lines and byte. Not by `write!`: a line is asked for its length before a byte of it is written.
 ghost use Rattle.std.specs.Prelude.{◌≡◌, ◌+◌, ◌≤◌, [], ◌∷◌, length};
 ghost use Rattle.std.specs.Option.{option_map_or};
 ghost use Rattle.basis.specs.Text.{high_digit, low_digit};
@@ -40,7 +40,7 @@ fn two_digits(byte: Option<u8>) -> [u8; 2]
     }
 }
 
-// The answer's number, the lines, the byte.
+// The answer's number, the lines, the byte: each character at its place.
 fn fields(answer: Answer, lines: Lines, byte: Option<u8>) -> [u8; FIELDS]
     ensures { result ≡ fields_of answer lines byte }
 {
@@ -80,6 +80,8 @@ pub(crate) fn put_line(
 }
 
 // The line of an answered event at an offset of the buffer, and the offset just past it; without room for all of it nothing is written.
+// Answer, lines and byte and no `Turn`: a line shows no core, and its callers need have none. A struct of the three would be a second turn.
+// The offset is that of `put_line`.
 pub fn show_line(
     out: &mut [u8],
     at: usize,

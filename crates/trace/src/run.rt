@@ -40,13 +40,11 @@ struct Answered {
 }
 
 // Whether the line of the event after so many has room.
+#[tactic(auto, using(basis::proofs::Digits::few_digits), unfolding(crate::specs::Play::has_room, crate::specs::Line::line_size))]
 fn has_room(room: usize, full: usize, count: u64) -> bool
     ensures { result ≡ has_room room full count }
 {
-    if count < LAST_NUMBER {
-        return tape::has_room(full, places(count + 1) + FIELDS, room);
-    }
-    false
+    count < LAST_NUMBER && tape::has_room(full, places(count + 1) + FIELDS, room)
 }
 
 // Whether reading stops after this answer.
@@ -74,6 +72,7 @@ fn answer_event(
         out.new }
     ensures same { Same tapes.old tapes.new }
 {
+    // not by `step_core`, though the block is an array: through it a core is copied once more (docs/SPEED.md)
     let turn = unit::step_lent(core, staging, tapes, event);
     let next = put_line(out, full, count + 1, turn.answer, turn.lines, turn.byte);
     Answered {
@@ -85,6 +84,7 @@ fn answer_event(
 
 // Whole events of the input in their order, and where the input is ending what is cut off too, while there is room,
 // up to and with the first answer 4.
+// `written` stands beside the whole of `out`: each line is put behind those before it, and every byte of the buffer is promised.
 pub fn play(
     core: Core,
     staging: &mut [u8; BODY],

@@ -1,6 +1,6 @@
 // Many data bytes in one call: those before the last of a block go by one copy, every other one by the step.
-ghost use Rattle.std.specs.Prelude.{◌≡◌, ◌-◌, ◌≤◌, ◌<◌, length, eqb, option_to_list};
-ghost use Rattle.basis.specs.Choice.{pick};
+// The staging block is a slice with its length asked for, as the step is lent it.
+ghost use Rattle.std.specs.Prelude.{◌≡◌, ◌-◌, ◌≤◌, ◌<◌, length, eqb};
 ghost use Rattle.basis.specs.Placed.{placed};
 ghost use Rattle.tape.specs.Record.{body_size};
 ghost use Rattle.rules.specs.Answer.{row_of};
@@ -8,9 +8,9 @@ ghost use Rattle.unit.specs.Tapes.{lent_on, tape_of, Same};
 ghost use Rattle.unit.specs.Handover.{GivesOver, TakesOver};
 ghost use Rattle.unit.specs.Ahead.{ahead_of, given_ahead, read_ahead, next_bytes, ReadsOn, TakesAhead, GivesSome, TakesSome};
 
-use crate::steps::step_lent;
+use crate::steps::{sound_of, step_lent};
 use crate::tapes::Tapes;
-use answers::{GIVEN, TAKEN, done, look, moved_on, possible};
+use answers::{GIVEN, TAKEN, done, look, moved_on};
 use basis::put;
 use port::is_block;
 use rules::{Answer, Core, Drive, LAST_PLACE, Phase, Turn};
@@ -23,14 +23,14 @@ pub struct Handed {
     pub last: Turn,
 }
 
-// Of so many bytes, those before the last of a block in which n went over; at Rest a block begins.
+// Of so many bytes, those before the last of a block in which n went over; at Rest a block begins, and elsewhere none goes on at place 0,
+// so "at Rest" stands beside the place, as the phase tells both. None is 0, as of any count: nothing is copied then.
+#[tactic(auto, using(basis::specs::Tests::tests), unfolding(basis::specs::Choice::pick, crate::specs::Ahead::ahead_of))]
 fn ahead_of(rest: bool, n: usize, want: usize) -> usize
     ensures { result ≡ ahead_of rest n want }
 {
-    if rest | (0 < n) {
-        if n < LAST_PLACE {
-            return want.min(LAST_PLACE - n);
-        }
+    if (rest | (0 < n)) && n < LAST_PLACE {
+        return want.min(LAST_PLACE - n);
     }
     0
 }
@@ -47,22 +47,20 @@ fn given_ahead(core: Core, calm: bool, want: usize) -> usize
 }
 
 // Bytes of the whole block at the head of a drive that reads, copied to the buffer from an offset on; how many.
-// An offset and no part, here and below: every byte of the whole buffer is promised.
+// An offset and no part, here and below: every byte of the whole buffer is promised. A phase and no `At`, as for `within_block`.
 fn read_ahead(drive: Drive, tape: &[u8], phase: Phase, out: &mut [u8], at: usize) -> usize
     requires { at ≤ length out.old }
     ensures { (result ≡ read_ahead drive tape.now phase (length out.old - at))
         × (out.new ≡ placed out.old at (next_bytes drive tape.now phase result)) }
 {
-    if drive.reads() {
-        if is_block(found_at(tape, drive.head)) {
-            let n = phase.taken_before();
-            let k = ahead_of(phase.at_rest(), n, out.len() - at);
-            if 0 < k {
-                let from = drive.head + 1 + n;
-                let end = from + k;
-                put(out, at, &tape[from..end]);
-                return k;
-            }
+    if drive.reads() && is_block(found_at(tape, drive.head)) {
+        let n = phase.taken_before();
+        let k = ahead_of(phase.at_rest(), n, out.len() - at);
+        if 0 < k {
+            let from = drive.head + 1 + n;
+            let end = from + k;
+            put(out, at, &tape[from..end]);
+            return k;
         }
     }
     0
@@ -104,7 +102,7 @@ fn give_some(core: Core, staging: &mut [u8], tapes: &mut Tapes<'_>, bytes: &[u8]
         (lent_on staging.new tapes.new) }
     ensures same { Same tapes.old tapes.new }
 {
-    let calm = possible(core) & tapes.short();
+    let calm = sound_of(core, tapes).calm();
     let k = given_ahead(core, calm, bytes.len());
     if 0 < k {
         let n = core.port.phase.given_before();
@@ -145,16 +143,6 @@ pub fn give_bytes(core: Core, staging: &mut [u8], tapes: &mut Tapes<'_>, bytes: 
     Handed { count, last }
 }
 
-// A byte that was handed out, put into the buffer.
-fn keep(out: &mut [u8], at: usize, byte: Option<u8>)
-    requires { at < length out.old }
-    ensures { out.new ≡ placed out.old at (option_to_list byte) }
-{
-    if let Some(b) = byte {
-        out[at] = b;
-    }
-}
-
 // Some bytes into the buffer from an offset on, by one copy or by one step. Apart from `give_some`: those bytes are read, these are written,
 // and what is copied ahead is another thing.
 fn take_some(
@@ -172,7 +160,7 @@ fn take_some(
         out.new }
     ensures same { Same tapes.old tapes.new }
 {
-    let calm = possible(core) & tapes.short();
+    let calm = sound_of(core, tapes).calm();
     let k = taken_ahead(core, calm, tapes, out, at);
     if 0 < k {
         let n = core.port.phase.taken_before();
@@ -183,7 +171,7 @@ fn take_some(
     }
     let event = [TAKEN];
     let last = step_lent(core, staging, tapes, &event);
-    keep(out, at, last.byte);
+    put(out, at, last.byte.as_slice());
     Handed {
         count: usize::from(last.byte.is_some()),
         last,
@@ -191,7 +179,7 @@ fn take_some(
 }
 
 // Bytes taken by the host one after the other, up to and with the first that is not answered 0.
-// Apart from `give_bytes`, as `take_some` is from `give_some`.
+// Apart from `give_bytes`: one loop over a trait of both, with its two impls and their ghost members, is longer than the two.
 pub fn take_bytes(core: Core, staging: &mut [u8], tapes: &mut Tapes<'_>, out: &mut [u8]) -> Handed
     requires { length staging.old ≡ body_size }
     ensures takes { TakesOver core

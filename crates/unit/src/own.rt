@@ -8,6 +8,7 @@ use port::{At, act, stage};
 use rules::{Act, Answer, Core, Drive, Turn};
 
 // Refused, or a byte given staged first and then the act: nothing is in reach but this drive's tape.
+// The staging block is a slice with its length asked for, as the step is lent it.
 pub(crate) fn act_on(
     core: Core,
     sound: Sound,

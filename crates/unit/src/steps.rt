@@ -1,6 +1,7 @@
 // One event: the drive that it means, then refusal first and effect second.
-ghost use Rattle.std.specs.Prelude.{◌≡◌, length};
+ghost use Rattle.std.specs.Prelude.{◌≡◌, [], length};
 ghost use Rattle.tape.specs.Record.{body_size};
+ghost use Rattle.rules.specs.Refusal.{possible, short};
 ghost use Rattle.rules.specs.Step.{Steps};
 ghost use Rattle.unit.specs.Tapes.{lent_on, Same};
 
@@ -16,8 +17,20 @@ use report::{after_octet, next_octet};
 use rules::{Act, Answer, Core, Event, Phase, Turn, Unit};
 use tape::BODY;
 
+// Whether the record is possible and the four lent tapes are short.
+pub(crate) fn sound_of(core: Core, tapes: &Tapes<'_>) -> Sound
+    ensures possible { result.possible ≡ possible core }
+    ensures short { result.short ≡ short (lent_on [] tapes.now) }
+{
+    Sound {
+        possible: possible(core),
+        short: tapes.short(),
+    }
+}
+
 // One event on a core, with the 512 bytes of the staging block lent from where they stand, beside the four tapes.
-// A slice with its length asked for, here and below: a record lends its last bytes, which are no array.
+// A slice with its length asked for: as an array, the last bytes of a record would come with a case that cannot be. Beside the core and the
+// tapes, and no struct with them: a core is handed on by value, and each caller has its staging block elsewhere.
 pub fn step_lent(core: Core, staging: &mut [u8], tapes: &mut Tapes<'_>, event: &[u8]) -> Turn
     requires { length staging.old ≡ body_size }
     ensures step { Steps core
@@ -26,11 +39,9 @@ pub fn step_lent(core: Core, staging: &mut [u8], tapes: &mut Tapes<'_>, event: &
         (lent_on staging.new tapes.new) }
     ensures same { Same tapes.old tapes.new }
 {
-    let sound = Sound {
-        possible: possible(core),
-        short: tapes.short(),
-    };
+    let sound = sound_of(core, tapes);
     let port = core.port;
+    // written out, and not by `within_block`: what that hands back goes by memory, and a byte takes a third longer and misses its bar
     if sound.calm() {
         if let Some((n, byte)) = given_place(port.phase, event) {
             if look(core, port.selected).writes {
@@ -63,7 +74,7 @@ pub fn step_lent(core: Core, staging: &mut [u8], tapes: &mut Tapes<'_>, event: &
     }
 }
 
-// The same with a staging block that is an array, and so with nothing asked for.
+// The same with a staging block that is an array, and so with nothing asked for. A public function, as docs/CONTRACTS.md has it.
 pub fn step_core(core: Core, staging: &mut [u8; BODY], tapes: &mut Tapes<'_>, event: &[u8]) -> Turn
     ensures step { Steps core
         (lent_on staging.old tapes.old)

@@ -6,6 +6,7 @@ ghost use Rattle.unit.specs.Tapes.{tape_of, lent_on};
 use answers::short;
 
 // Each is lent from where it stands. Four fields and no array: a law of an array would have to ask how long it is.
+// Whoever is lent the four says that they stay the same, `Same`: a field could be exchanged, and no type names what C lent.
 #[derive(Drop)]
 pub struct Tapes<'a> {
     pub tape0: &'a mut [u8],
@@ -15,7 +16,8 @@ pub struct Tapes<'a> {
 }
 
 impl Tapes<'_> {
-    // The tape of a drive by its number; a number above 3 means the last.
+    // The tape of a drive by its number; a number above 3 means the last. By `match`, since the four are no array, and apart from
+    // `Core::drive`: that hands out a copy, this a slice that stays lent.
     pub fn of(&self, i: u8) -> &[u8]
         ensures { result.now ≡ tape_of self.now i }
     {

@@ -21,15 +21,14 @@ pub(crate) fn next_of(drive: Drive, tape: &[u8], n: usize) -> Option<u8>
     requires { n < last_place }
     ensures { result ≡ next_of drive tape.now n }
 {
-    if drive.reads() {
-        if is_block(found_at(tape, drive.head)) {
-            return Some(tape[drive.head + 1 + n]);
-        }
+    if drive.reads() && is_block(found_at(tape, drive.head)) {
+        return Some(tape[drive.head + 1 + n]);
     }
     None
 }
 
 // What an event comes to in a phase, on the drive that is selected and its tape, if it is a byte within a block.
+// A phase beside the drive, and no `At` of `port`: of the port nothing else is looked at.
 pub fn within_block(phase: Phase, drive: Drive, tape: &[u8], event: &[u8]) -> Option<Inside>
     ensures { result ≡ inside_of phase drive tape.now event.now }
 {

@@ -10,14 +10,12 @@ pub loop-pair-preserved : goal.loop-pair-preserved
 loop-pair-preserved c =
     let at = c.loop-pair.invariant in
     let steps = c.in-Some.ensures.steps in
-    let kept = c.step_lent.auto in
     let same = c.step_lent.ensures.same in
     record {
       under_way =
           loop_laws.goes_on at.under_way c.step_lent.ensures.step (pairs_cut _ _ _ _ steps.1.0 (steps.1.1 ∙ at.by_two) c.event_of.ensures)
           (record { size0 = same.size0; size1 = same.size1; size2 = same.size2; size3 = same.size3 });
       by_two = steps.0 ∙ at.by_two;
-      same_staging = kept.staging ∙ at.same_staging;
       same = same_on same at.same;
     }
 

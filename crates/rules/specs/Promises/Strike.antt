@@ -1,6 +1,5 @@
 -- The strike comes back: what a rig gave is what it is handed out, byte for byte, and what was recorded before is handed out as ever.
 use Rattle.std.specs.Prelude.{ℕ, zero, suc, ◌+◌, ◌*◌, ◌≤◌, ◌≡◌, true, false, List, [], ◌∷◌, ◌++◌, length, Ok, None, Some}
-use Rattle.std.proofs.Math.Option.{none, some}
 use Rattle.tape.specs.declared.found.Kind.TheVariants.{Block}
 use Rattle.std.specs.List.{cons_option}
 use Rattle.tape.specs.Record.{body_size, mark_record, block_record, found_at}

@@ -10,13 +10,13 @@ returns-clause-served g c =
     let s = c.go_over-handed.new.staging in
     let size = record_long l c.requires in
     let staging = back_staging l s size (c.go_over-handed.auto.staging ∙ part_long l s size) in
-    let wrote = c.write_turn.ensures in
+    let wrote = c.write_core.ensures in
     record {
       handed = c.go_over-handed.result;
       staging = s;
       is = rw (c.core_of-core.ensures, lent_part l s size) at c.go_over-handed.ensures.goes;
       count = refl;
-      result = wrote.value;
+      result = c.turn_bytes.ensures;
       left = rw (staging) at wrote.buffer_after;
       sized = rw (staging) at wrote.sized;
     }

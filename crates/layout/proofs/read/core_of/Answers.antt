@@ -6,13 +6,13 @@ pub returns : goal.returns
 unfolding core_of
 returns c =
     rw (
-      c.drive_of-drive3.ensures,
+      c.drive_of-4.ensures,
       c.part-4.ensures,
-      c.drive_of-drive2.ensures,
+      c.drive_of-3.ensures,
       c.part-3.ensures,
-      c.drive_of-drive1.ensures,
+      c.drive_of-2.ensures,
       c.part-2.ensures,
-      c.drive_of-drive0.ensures,
+      c.drive_of.ensures,
       c.part.ensures,
-      c.port_in-port.ensures,
+      c.port_in.ensures,
     )

@@ -8,9 +8,9 @@ unfolding drive_of
 returns c =
     let p = c.args.p.now in
     rw (
-      c.latched_of-latched.ensures,
-      c.mode_of-mode.ensures,
-      two_read p _ 14 _ c.part-3.ensures c.from_le_bytes-underruns.ensures,
-      two_read p _ 12 _ c.part-2.ensures c.from_le_bytes-errors.ensures,
-      eight_read p _ 0 _ c.part.ensures c.from_le_bytes-head.ensures,
+      c.latched_of.ensures,
+      c.mode_of.ensures,
+      two_read p _ 14 _ c.part-3.ensures c.from_le_bytes-3.ensures,
+      two_read p _ 12 _ c.part-2.ensures c.from_le_bytes-2.ensures,
+      eight_read p _ 0 _ c.part.ensures c.from_le_bytes.ensures,
     )

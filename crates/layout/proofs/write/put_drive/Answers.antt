@@ -3,4 +3,4 @@ use Rattle.layout.proofs.write.put_drive.Goals as goal
 
 pub returns : goal.returns
 returns c =
-    rw c.drive_bytes-bytes.ensures at c.put.ensures
+    rw c.drive_bytes.ensures at c.put.ensures

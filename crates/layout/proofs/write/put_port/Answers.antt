@@ -4,4 +4,4 @@ use Rattle.layout.proofs.write.put_port.Goals as goal
 
 pub returns : goal.returns
 returns c =
-    record { buffer_after = rw c.port_bytes-bytes.ensures at c.put.ensures; octets_len = search rules }
+    record { buffer_after = rw c.port_bytes.ensures at c.put.ensures; octets_len = search rules }

@@ -1,12 +1,7 @@
 use Rattle.rules.specs.Bytes.{staged_byte}
-use Rattle.basis.specs.Choice.{pick}
-use borrow.Author.Tests.{le-ltb, lt-ltb}
+use Rattle.basis.proofs.Choosing.{min_is}
 use Rattle.port.proofs.given.put.Goals as goal
 
-pub returns-then-n-lt-LAST_PLACE : goal.returns-then-n-lt-LAST_PLACE
-unfolding pick staged_byte
-returns-then-n-lt-LAST_PLACE c = rw (lt-ltb _ _ c.if-n-lt-LAST_PLACE.true)
-
-pub returns-else-n-lt-LAST_PLACE : goal.returns-else-n-lt-LAST_PLACE
-unfolding pick staged_byte
-returns-else-n-lt-LAST_PLACE c = rw (le-ltb _ _ c.if-n-lt-LAST_PLACE.false)
+pub returns : goal.returns
+unfolding staged_byte
+returns c = rw (c.min.ensures, min_is c.args.n 511)

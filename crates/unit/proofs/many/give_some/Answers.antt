@@ -32,7 +32,7 @@ unfolding short
 returns-then-k-gt0-clause-gives c =
     let a = c.args in
     let l = lent_on a.staging.now a.tapes.now in
-    let is = rw (c.possible.ensures, c.short.ensures) at c.given_ahead-k.ensures in
+    let is = rw (c.calm-calm.ensures, c.sound_of.ensures.possible, c.sound_of.ensures.short) at c.given_ahead-k.ensures in
     let n = c.given_before-n.ensures in
     let part : c.given_ahead-k.result - 0 ≡ c.given_ahead-k.result = omega arith in
     given_leg a.core l a.bytes.now _ _ _ c.requires.0 is c.if-k-gt0.true (rw (n) at c.moved_on.ensures)

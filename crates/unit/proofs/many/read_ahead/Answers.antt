@@ -8,7 +8,7 @@ use Rattle.basis.proofs.Placing.{placed_none}
 use Rattle.port.proofs.Whole.{whole}
 use Rattle.unit.specs.Ahead.{read_ahead}
 use Rattle.unit.proofs.Ahead.{ahead_some}
-use Rattle.unit.proofs.many.read_ahead.Goals.{Then-k-gt0}
+use Rattle.unit.proofs.many.read_ahead.Goals.{Then-k-gt0, else-reads-via-then-reads+else-is_block, else-reads-via-else-reads}
 use Rattle.unit.proofs.many.read_ahead.Goals as goal
 
 -- the bytes that are ahead lie inside the block, and the block inside the tape
@@ -70,20 +70,14 @@ returns-else-k-gt0 c =
       sym (placed_none a.out.now a.at),
     )
 
-pub returns-else-is_block : goal.returns-else-is_block
-unfolding pick read_ahead
-returns-else-is_block c =
-    let a = c.args in (
-      rw (
-        ← c.reads.ensures,
-        c.if-reads.true,
-        ← c.found_at.ensures,
-        ← c.is_block.ensures,
-        c.if-is_block.false,
-      ),
-      sym (placed_none a.out.now a.at),
-    )
-
 pub returns-else-reads : goal.returns-else-reads
 unfolding pick read_ahead
-returns-else-reads c = let a = c.args in (rw (← c.reads.ensures, c.if-reads.false), sym (placed_none a.out.now a.at))
+returns-else-reads c =
+    let a = c.args in (
+      elim c.else-reads.branch [
+        | else-reads-via-then-reads+else-is_block w ↦
+            rw (← c.reads.ensures, w.if-reads.true, ← w.found_at.ensures, ← w.is_block.ensures, w.if-is_block.false)
+        | else-reads-via-else-reads w ↦ rw (← c.reads.ensures, w.if-reads.false)
+      ],
+      sym (placed_none a.out.now a.at),
+    )

@@ -6,7 +6,7 @@ use Rattle.tape.specs.Record.{block_size}
 use Rattle.port.proofs.Whole.{whole}
 use Rattle.unit.specs.Within.{next_of}
 use Rattle.basis.specs.Choice.{pick}
-use Rattle.unit.proofs.within.next_of.Goals.{Then-is_block}
+use Rattle.unit.proofs.within.next_of.Goals.{Then-is_block, else-reads-via-then-reads+else-is_block, else-reads-via-else-reads}
 use Rattle.unit.proofs.within.next_of.Goals as goal
 
 inside : (c : Then-is_block) → c.args.drive.head + block_size ≤ length c.args.tape.now
@@ -33,11 +33,11 @@ returns-then-is_block c =
       c.if-is_block.true,
     )
 
-pub returns-else-is_block : goal.returns-else-is_block
+pub returns : goal.returns
 unfolding pick next_of
-returns-else-is_block c =
-    rw (← c.reads.ensures, c.if-reads.true, ← c.found_at.ensures, ← c.is_block.ensures, c.if-is_block.false)
-
-pub returns-else-reads : goal.returns-else-reads
-unfolding pick next_of
-returns-else-reads c = rw (← c.reads.ensures, c.if-reads.false)
+returns c =
+    elim c.else-reads.branch [
+      | else-reads-via-then-reads+else-is_block w ↦
+          rw (← c.reads.ensures, w.if-reads.true, ← w.found_at.ensures, ← w.is_block.ensures, w.if-is_block.false)
+      | else-reads-via-else-reads w ↦ rw (← c.reads.ensures, w.if-reads.false)
+    ]

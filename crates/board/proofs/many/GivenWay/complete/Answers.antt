@@ -16,6 +16,7 @@ use Rattle.basis.proofs.Choosing.{both}
 use Rattle.rules.specs.declared.unit.Port.{Port}
 use Rattle.layout.specs.Written.{phase_at, phase_bytes}
 use Rattle.layout.proofs.Form.{record_long}
+use Rattle.unit.proofs.Legs.{one_where}
 use Rattle.board.proofs.InPlace.{lent_part, part_long, given_back}
 use Rattle.board.proofs.Ended.{all_but_one, still_record, given_served}
 use borrow.Author.Rules.{rules}
@@ -39,8 +40,8 @@ overflow_add-n c =
 pub bounds-self-k : goal.bounds-self-k
 bounds-self-k c = omega (arith, (all_but_one _ _ _ (both _ _ c.requires.1.1.1).0).two)
 
-pub serve_step-requires : goal.serve_step-requires
-serve_step-requires c =
+pub step_in-last-requires : goal.step_in-last-requires
+step_in-last-requires c =
     let l = c.args.buffer.now in
     let g = c.put.new.out in
     let size = record_long l c.requires.0 in
@@ -64,8 +65,8 @@ returns-clause-served c =
     let put : g ≡ placed (staging_of l) n (take k a.self.now.bytes.now) = rw (lent_part l g size, before, part) at c.put.ensures in
     let back = given_back l g size ∙ ap (λ (x : List ℕ). take 146 l ++ x) put in
     let is = rw (before) at c.write_phase.ensures ∙ ap (λ (x : List ℕ). placed x phase_at (phase_bytes (Taking (n + k)))) back in
-    let sizes = c.serve_step.ensures.same in
-    given_served l (tapes_of a.tapes.now) _ _ _ _ (λ i. search rules) pre.0
+    let sizes = c.step_in-last.ensures.same in
+    given_served l (tapes_of a.tapes.now) _ _ _ _ c.step_in-last.result (λ i. search rules) pre.0
     pre.1.0 (record { size0 = sizes.size0; size1 = sizes.size1; size2 = sizes.size2; size3 = sizes.size3 }) a.self.now.bytes.now _ (rw (port) at at.1)
-    (rw (port) at at.0) (sym (ap length put) ∙ (c.put.auto.out ∙ part_long l g size)) is c.serve_step.ensures.served
-    (ap (λ (x : ℕ). k + x) c.from.ensures)
+    (rw (port) at at.0) (sym (ap length put) ∙ (c.put.auto.out ∙ part_long l g size)) is c.step_in-last.ensures.stepped
+    c.turn_bytes.ensures (ap (λ (x : ℕ). k + x) (rw c.refuses.ensures at (c.from.ensures ∙ one_where _)))

@@ -1,10 +1,14 @@
 -- All but the last byte by one copy and the phase written where it stands; the last byte by the step.
 use Prim.Native.Nat.{ℕ, ◌+◌, ◌≤◌}
 use mathlib.Core.Path.{◌≡◌, sym, ap, ◌∙◌}
+use mathlib.Core.Bool.{Bool, true, false}
 use mathlib.Core.List.{List}
+use lib.ListN.{length}
+use Rattle.std.specs.Int.{from_bool}
 use native.Mathlib.Omega.{arith}
 use Rattle.basis.specs.Placed.{placed}
-use Rattle.basis.proofs.Placing.{placed_none}
+use Rattle.basis.proofs.Placing.{placed_none, one_or_none, one_at_most}
+use Rattle.unit.proofs.Legs.{one_where}
 use Rattle.rules.specs.declared.phase.Phase.TheVariants.{Giving}
 use Rattle.rules.specs.declared.unit.Port.{Port}
 use Rattle.rules.specs.Phase.{taken_before}
@@ -15,6 +19,10 @@ use Rattle.board.proofs.Ended.{all_but_one, read_most, still_record, own_staging
 use borrow.Author.Rules.{rules}
 use Rattle.board.proofs.many.TakenWay.complete.Goals as goal
 
+bit : (b : Bool) → from_bool b ≤ 1
+bit true = omega arith
+bit false = omega arith
+
 pub returns-then-k-eq0-clause-served : goal.returns-then-k-eq0-clause-served
 returns-then-k-eq0-clause-served c = let same = rw c.if-k-eq0.true at c.read_on-k.ensures.bytes ∙ placed_none _ 0 in rw (same) at c.serve_all.ensures.served
 
@@ -23,19 +31,26 @@ overflow_add-taken_before c =
     let most = read_most _ _ _ _ _ c.requires.1.1.1 c.read_on-k.ensures.count (omega (arith, c.if-k-eq0.false)) in
     omega (arith, most, (all_but_one _ _ _ c.requires.1.1.1).place, c.taken_before.ensures)
 
-pub serve_step-requires : goal.serve_step-requires
-serve_step-requires c =
+pub step_in-last-requires : goal.step_in-last-requires
+step_in-last-requires c =
     let l = c.args.buffer.now in
     let so = c.requires.0 in
     let ph = Giving (c.taken_before.result + c.read_on-k.result) in
     let is = c.write_phase.ensures ∙ ap (λ (x : List ℕ). placed x phase_at (phase_bytes ph)) (sym (own_staging l so)) in
     still_record l (λ i. search rules) so ph (staging_of l) (staging_long l so) _ is
 
-pub keep_last-requires : goal.keep_last-requires
-keep_last-requires c =
+pub put-requires : goal.put-requires
+put-requires c =
     let all = all_but_one _ _ _ c.requires.1.1.1 in
     let most = read_most _ _ _ _ _ c.requires.1.1.1 c.read_on-k.ensures.count (omega (arith, c.if-k-eq0.false)) in
-    (omega (arith, most, all.place, all.two), omega (arith, most, all.two, c.read_on-k.auto.out))
+    let long = ap length (one_or_none _ c.as_slice.ensures) in
+    omega (arith, long, one_at_most c.step_in-last.result.byte, most, all.two, c.read_on-k.auto.out)
+
+pub overflow_add-result : goal.overflow_add-result
+overflow_add-result c =
+    let all = all_but_one _ _ _ c.requires.1.1.1 in
+    let most = read_most _ _ _ _ _ c.requires.1.1.1 c.read_on-k.ensures.count (omega (arith, c.if-k-eq0.false)) in
+    omega (arith, most, all.place, all.two, c.from.ensures, bit c.is_some.result)
 
 pub returns-clause-served : goal.returns-clause-served
 returns-clause-served c =
@@ -51,8 +66,9 @@ returns-clause-served c =
     let some : 1 ≤ k = omega (arith, c.if-k-eq0.false) in
     let is =
     rw (before) at c.write_phase.ensures ∙ ap (λ (x : List ℕ). placed x phase_at (phase_bytes (Giving (n + k)))) (sym (own_staging l pre.0)) in
-    let kept = c.keep_last.ensures in
-    let sizes = c.serve_step.ensures.same in
-    taken_served l (tapes_of a.tapes.now) _ _ _ _ (λ i. search rules) pre.0
+    let kept = rw (one_or_none _ c.as_slice.ensures) at c.put.ensures in
+    let count = ap (λ (x : ℕ). k + x) (rw c.is_some.ensures at (c.from.ensures ∙ one_where _)) in
+    let sizes = c.step_in-last.ensures.same in
+    taken_served l (tapes_of a.tapes.now) _ _ _ _ c.step_in-last.result (λ i. search rules) pre.0
     pre.1.0 (record { size0 = sizes.size0; size1 = sizes.size1; size2 = sizes.size2; size3 = sizes.size3 }) a.self.now.bytes.now front _ k _
-    (rw (port) at pre.1.1.1) took c.read_on-k.auto.out some is c.serve_step.ensures.served kept.1 kept.0
+    (rw (port) at pre.1.1.1) took c.read_on-k.auto.out some is c.step_in-last.ensures.stepped c.turn_bytes.ensures kept count

@@ -1,5 +1,5 @@
 use Rattle.rules.specs.Refusal.{possible_phase}
-use Rattle.answers.proofs.possibility.possible_phase.Goals as goal
+use Rattle.answers.proofs.possibility.possible_at.Goals as goal
 
 pub returns-in-Rest : goal.returns-in-Rest
 unfolding possible_phase
