@@ -1,12 +1,7 @@
--- ONLINE dropped: which of its rules two tests choose, and what the mode says.
+-- ONLINE dropped: which of its rules two tests choose.
 use mathlib.Core.Path.{◌≡◌, refl, ◌∙◌}
 use mathlib.Core.Bool.{Bool, true, false, ◌&&◌}
 use Rattle.basis.specs.Choice.{pick}
-use Rattle.rules.specs.declared.drive.Mode.{Mode}
-use Rattle.rules.specs.declared.drive.Mode.TheVariants.{Idle, Writing, Reading}
-use Rattle.rules.specs.Drive.{is_writing}
-use Rattle.rules.specs.Effect.{Seat}
-use Rattle.rules.specs.Online.{left_alone, leaving}
 
 -- the level up with EXCEPTION; up with a cartridge; and neither
 by_two_tests : {A : Type 0} (online exception loaded : Bool) (idle left level : A)
@@ -32,14 +27,3 @@ module _ {A : Type 0} (online exception loaded : Bool) (idle left level : A) whe
   pub with_neither : (online && exception) ≡ false → (online && loaded) ≡ false → chosen ≡ level
   unfolding pick
   with_neither h k = by_two_tests online exception loaded idle left level ∙ rw (h, k)
-
--- a mark only in Writing
-pub leaving_writing : (s : Seat) (m : Mode) → is_writing m ≡ true → leaving s Writing ≡ leaving s m
-leaving_writing s Idle e = cc
-leaving_writing s Writing e = refl
-leaving_writing s Reading e = cc
-
-pub leaving_else : (s : Seat) (m : Mode) → is_writing m ≡ false → left_alone s s.tape ≡ leaving s m
-leaving_else s Idle e = refl
-leaving_else s Writing e = cc
-leaving_else s Reading e = refl

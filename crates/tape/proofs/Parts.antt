@@ -12,7 +12,7 @@ use borrow.Rule.Slice.PartMut.{put_mid}
 use borrow.Author.Tests.{leb-true, leb-false, le-leb, lt-leb}
 use Rattle.std.specs.Prelude.{Some, None}
 use Rattle.basis.specs.Choice.{pick}
-use Rattle.tape.specs.Record.{mark_record, block_record}
+use Rattle.tape.specs.Record.{block_record}
 use Rattle.tape.specs.Recording.{ended_at, put_in, recorded, written, written_at}
 
 -- what a test for room said
@@ -30,11 +30,6 @@ end_in (x ∷ xs) (suc n) l = ap (λ (r : List ℕ). x ∷ r) (end_in xs n (omeg
 
 pub end_out : (d : List ℕ) (n : ℕ) → length d ≤ n → d ≡ ended_at d n
 end_out d n l = sym (rw (take_all n d l, drop_of_length-le d l, append-nil))
-
--- a mark's kind stored, and the 00 after it
-pub mark_put : (d : List ℕ) → 1 ≤ length d → ended_at (set d 0 2) 1 ≡ put_in mark_record d
-mark_put [] l = absurd (not-suc-le-zero l)
-mark_put (x ∷ xs) l = refl
 
 -- a block's kind stored, its body copied, and the 00 after it
 pub block_put : (d s : List ℕ) → length s ≡ 512 → 513 ≤ length d → ended_at (put_mid 1 512 (set d 0 1) s) 513 ≡ put_in (block_record s) d
