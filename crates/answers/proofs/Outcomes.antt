@@ -23,6 +23,7 @@ one_outcome =
       given_place = λ ph l r r' p q. same p q;
       taken_place = λ ph l r r' p q. same p q;
       octets_left = λ ph l r r' p q. same p q;
+      body = λ l r r' p q. same p q;
       possible_drive = λ d r r' p q. same p q;
       possible_at = λ ph d r r' p q. same p q;
       possible = λ c r r' p q. same p q;

@@ -22,7 +22,7 @@ use Rattle.answers.specs.declared.looks.Seen.{Seen}
 use Rattle.answers.specs.Looks.{look_of}
 use Rattle.answers.specs.Moved.{moved_on}
 use Rattle.answers.specs.Settled.{Settles}
-use Rattle.answers.specs.Place.{given_place, taken_place, octets_left}
+use Rattle.answers.specs.Place.{given_place, taken_place, octets_left, body_of}
 
 -- None of four lengths is above the longest.
 abbrev pub short_by : ℕ → ℕ → ℕ → ℕ → Bool
@@ -38,6 +38,7 @@ pub record OneOutcome : Type 0 where
   pub given_place : (ph : Phase) (l : List ℕ) (r r' : Option (ℕ × ℕ)) → r ≡ given_place ph l → r' ≡ given_place ph l → r ≡ r'
   pub taken_place : (ph : Phase) (l : List ℕ) (r r' : Option ℕ) → r ≡ taken_place ph l → r' ≡ taken_place ph l → r ≡ r'
   pub octets_left : (ph : Phase) (l : List ℕ) (r r' : Option ℕ) → r ≡ octets_left ph l → r' ≡ octets_left ph l → r ≡ r'
+  pub body : (l : List ℕ) (r r' : ℕ) → r ≡ body_of l → r' ≡ body_of l → r ≡ r'
   pub possible_drive : (d : Drive) (r r' : Bool) → r ≡ possible_drive d → r' ≡ possible_drive d → r ≡ r'
   pub possible_at : (ph : Phase) (d : Drive) (r r' : Bool) → r ≡ possible_phase ph d.mode → r' ≡ possible_phase ph d.mode → r ≡ r'
   pub possible : (c : Core) (r r' : Bool) → r ≡ possible c → r' ≡ possible c → r ≡ r'

@@ -1,6 +1,7 @@
 -- A byte within a block, and an octet of a report, by the bytes of the event and the phase.
 use Rattle.std.specs.Prelude.{ℕ, Bool, ◌&&◌, List, length, get_or, ltb, eqb, Option}
 use Rattle.std.specs.Bool.{then_some}
+use Rattle.basis.specs.Choice.{pick}
 use Rattle.rules.specs.declared.phase.Phase.{Phase}
 use Rattle.rules.specs.Phase.{last_place, given_before, taken_before, outstanding}
 
@@ -24,3 +25,7 @@ taken_place ph l = then_some (is_taken l && within (taken_before ph)) (taken_bef
 
 abbrev pub octets_left : Phase → List ℕ → Option ℕ
 octets_left ph l = then_some (is_taken l && ltb 0 (outstanding ph)) (outstanding ph)
+
+-- The byte that comes with an event of two bytes.
+unfoldable pub body_of : List ℕ → ℕ
+body_of l = pick (eqb (length l) 2) (get_or l 1 0) 0

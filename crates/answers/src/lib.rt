@@ -12,7 +12,7 @@ mod turn;
 
 pub use event::event_of;
 pub use looks::{Seen, look};
-pub use place::{given_place, octets_left, taken_place};
+pub use place::{body, given_place, octets_left, taken_place};
 pub use possibility::{possible, possible_at, possible_drive};
 pub use refusal::{Sound, in_step, refusal_by, short, slot_answer, unless};
 pub use slots::{reset, slot};

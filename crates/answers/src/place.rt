@@ -1,7 +1,7 @@
 // The events that change the phase alone, by their bytes and the phase: they come most often, and are looked for first.
 ghost use Rattle.std.specs.Prelude.{◌≡◌, ◌<◌, IfSome};
 ghost use Rattle.rules.specs.Phase.{last_place};
-ghost use Rattle.answers.specs.Place.{within, is_taken, given_place, taken_place, octets_left};
+ghost use Rattle.answers.specs.Place.{within, is_taken, given_place, taken_place, octets_left, body_of};
 
 use crate::{GIVEN, TAKEN};
 use rules::{LAST_PLACE, Phase};
@@ -47,4 +47,11 @@ pub fn octets_left(phase: Phase, event: &[u8]) -> Option<usize>
 {
     let k = phase.outstanding();
     (is_taken(event) & (0 < k)).then_some(k)
+}
+
+// The byte that comes with an event of two bytes. Public, as docs/CONTRACTS.md has it.
+pub fn body(event: &[u8]) -> u8
+    ensures { result ≡ body_of event.now }
+{
+    if event.len() == 2 { event[1] } else { 0 }
 }

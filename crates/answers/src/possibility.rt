@@ -26,11 +26,13 @@ fn late_fits(mode: Mode, late: u8) -> bool
 }
 
 // A head above the longest tape is impossible.
+#[tactic(auto, unfolding(rules::specs::Refusal::possible_drive))]
 pub fn possible_drive(drive: Drive) -> bool
     ensures { result ≡ possible_drive drive }
 {
-    (drive.head <= LONGEST)
-        & (mode_fits(drive.mode, drive.loaded, drive.protected) & late_fits(drive.mode, drive.late))
+    drive.head <= LONGEST
+        && (mode_fits(drive.mode, drive.loaded, drive.protected)
+            & late_fits(drive.mode, drive.late))
 }
 
 // A part block given needs the selected drive Writing, taken needs it Reading; octets outstanding are 1 to 6.
@@ -45,20 +47,27 @@ pub fn possible_at(phase: Phase, drive: Drive) -> bool
     }
 }
 
-// The phase beside the selected drive.
+// The phase beside the selected drive: each drive is called by its name, since a look by number copies the record.
 fn possible_place(core: Core) -> bool
     ensures { result ≡ possible_phase core.port.phase (drive_at core core.port.selected).mode }
 {
-    possible_at(core.port.phase, core.drive(core.port.selected))
+    match core.port.selected {
+        0 => possible_at(core.port.phase, core.drive0),
+        1 => possible_at(core.port.phase, core.drive1),
+        2 => possible_at(core.port.phase, core.drive2),
+        _ => possible_at(core.port.phase, core.drive3),
+    }
 }
 
-// The selected drive's number, the phase, and each of the four drives.
+// The selected drive's number, the phase, and each of the four drives; the first test that fails decides.
+#[tactic(auto, unfolding(rules::specs::Refusal::possible))]
 pub fn possible(core: Core) -> bool
     ensures { result ≡ possible core }
 {
-    (core.port.selected <= LAST_DRIVE)
-        & (possible_place(core)
-            & (possible_drive(core.drive0)
-                & (possible_drive(core.drive1)
-                    & (possible_drive(core.drive2) & possible_drive(core.drive3)))))
+    core.port.selected <= LAST_DRIVE
+        && possible_place(core)
+        && possible_drive(core.drive0)
+        && possible_drive(core.drive1)
+        && possible_drive(core.drive2)
+        && possible_drive(core.drive3)
 }

@@ -24,8 +24,8 @@ use Rattle.unit.proofs.Handover.{handover_ran}
 use Rattle.layout.specs.Number.{byte_at}
 use Rattle.layout.specs.Written.{flag, unit, Sized, unit_bytes}
 use Rattle.layout.specs.Read.{is_record, core_of, staging_of, unit_of}
-use Rattle.board.specs.Serve.{Tapes, lent_with, Serves, Gives, Takes, holds}
-use Rattle.board.specs.Laws.{FreshHeld, RefusedKeeps, NoByteIsZero, no_call, next_call, world_of, CallsRun, RunUpTo, GivesRun, TakesRun}
+use Rattle.board.specs.Serve.{Tapes, lent_with, result_bytes, no_record, Serves, Gives, Takes, holds}
+use Rattle.board.specs.Laws.{FreshHeld, RefusedKeeps, NoByteIsZero, NoByteOfManyIsZero, no_call, next_call, world_of, CallsRun, RunUpTo, GivesRun, TakesRun}
 use Rattle.layout.proofs.Back.{read_back}
 use Rattle.layout.proofs.Form.{one_form}
 use Rattle.board.proofs.Outcomes.{tapes_in}
@@ -59,14 +59,31 @@ refused_keeps l t event out l' t' small (Serves.of_record so p) h =
     (refuses p.turn.answer number) in
     (p.left ∙ ap₂ (λ c (g : Lent). unit_bytes (unit c g.staging)) found.core found.lent ∙ one_form l small so, ap tapes_in found.lent)
 
-pub no_byte_is_zero : NoByteIsZero
-no_byte_is_zero l t event out l' t' (Serves.of_none none p) h = ap (λ (x : List ℕ). byte_at x 2) p.result
-no_byte_is_zero l t event out l' t' (Serves.of_record so p) h =
-    ap (λ (x : List ℕ). byte_at x 2) p.result ∙ go p.turn.byte (sym (ap (λ (x : List ℕ). byte_at x 1) p.result) ∙ h)
+-- a turn's result that says that no byte was given, and that of no record
+unsaid : (r : Turn) (out : List ℕ) → out ≡ result_bytes r → byte_at out 1 ≡ 0 → byte_at out 2 ≡ 0
+unsaid r out e h = ap (λ (x : List ℕ). byte_at x 2) e ∙ go r.byte (sym (ap (λ (x : List ℕ). byte_at x 1) e) ∙ h)
   where
     go : (o : Option ℕ) → flag (is_some o) ≡ 0 → unwrap_or o 0 ≡ 0
     go None e = refl
     go (Some b) e = absurd (omega (arith, e))
+
+none_said : (out : List ℕ) → out ≡ no_record → byte_at out 2 ≡ 0
+none_said out e = ap (λ (x : List ℕ). byte_at x 2) e
+
+pub no_byte_is_zero : NoByteIsZero
+no_byte_is_zero l t event out l' t' (Serves.of_none none p) h = none_said out p.result
+no_byte_is_zero l t event out l' t' (Serves.of_record so p) h = unsaid p.turn out p.result h
+
+pub no_byte_of_many_is_zero : NoByteOfManyIsZero
+no_byte_of_many_is_zero l t bytes r out l' t' h = (given, taken)
+  where
+    given : Gives l t bytes r out l' t' → byte_at out 2 ≡ 0
+    given (Gives.of_none none p z) = none_said out p.result
+    given (Gives.of_record so p) = unsaid p.handed.last out p.result h
+
+    taken : (bytes' : List ℕ) → Takes l t bytes r out l' t' bytes' → byte_at out 2 ≡ 0
+    taken bytes' (Takes.of_none none p z same) = none_said out p.result
+    taken bytes' (Takes.of_record so p) = unsaid p.handed.last out p.result h
 
 -- a record that was written, read again, is what was written
 left_again : (l' : List ℕ) (t' : Tapes) (c : Core) (g : List ℕ) → l' ≡ unit_bytes (unit c g) → Sized (unit c g)

@@ -24,6 +24,12 @@ abbrev pub NoByteIsZero : Type 0
 NoByteIsZero =
     (l : List ℕ) (t : Tapes) (event out l' : List ℕ) (t' : Tapes) → Serves l t event out l' t' → byte_at out 1 ≡ 0 → byte_at out 2 ≡ 0
 
+-- So does the result of many bytes given, and of many taken.
+abbrev pub NoByteOfManyIsZero : Type 0
+NoByteOfManyIsZero =
+    (l : List ℕ) (t : Tapes) (bytes : List ℕ) (r : ℕ) (out l' : List ℕ) (t' : Tapes) → byte_at out 1 ≡ 0
+    → (Gives l t bytes r out l' t' → byte_at out 2 ≡ 0) × ((bytes' : List ℕ) → Takes l t bytes r out l' t' bytes' → byte_at out 2 ≡ 0)
+
 -- Calls one after the other, each buffer handed on as the last call left it.
 pub data Used : List ℕ → Tapes → List (List ℕ) → List (List ℕ) → List ℕ → Tapes → Type 0 where
   no_call : {l : List ℕ} {t : Tapes} → Used l t [] [] l t

@@ -32,3 +32,6 @@ pub const KEPT_LATE: usize = 1;
 pub const WRITE_ROOM: usize = tape::BLOCK_SIZE + KEPT_LATE;
 
 pub const LATE_BLOCKS: u8 = 2;
+
+// The highest count.
+pub const HIGHEST: u16 = 65535;

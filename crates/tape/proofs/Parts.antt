@@ -6,9 +6,8 @@ use mathlib.Core.Bool.{Bool, true, false}
 use native.Mathlib.Omega.{arith}
 use native.Mathlib.Nat.{not-suc-le-zero}
 use lib.ListN.{length, take, drop, set, length-drop, drop_of_length-le}
-use lib.Seq.{take_all, take_at, drop_at}
+use lib.Seq.{take_all, take_at, drop_at, paste}
 use lib.Dec.{leb}
-use borrow.Rule.Slice.PartMut.{put_mid}
 use borrow.Author.Tests.{leb-true, leb-false, le-leb, lt-leb}
 use Rattle.std.specs.Prelude.{Some, None}
 use Rattle.basis.specs.Choice.{pick}
@@ -31,10 +30,10 @@ end_in (x ∷ xs) (suc n) l = ap (λ (r : List ℕ). x ∷ r) (end_in xs n (omeg
 pub end_out : (d : List ℕ) (n : ℕ) → length d ≤ n → d ≡ ended_at d n
 end_out d n l = sym (rw (take_all n d l, drop_of_length-le d l, append-nil))
 
--- a block's kind stored, its body copied, and the 00 after it
-pub block_put : (d s : List ℕ) → length s ≡ 512 → 513 ≤ length d → ended_at (put_mid 1 512 (set d 0 1) s) 513 ≡ put_in (block_record s) d
+-- a block's kind stored, its body pasted, and the 00 after it
+pub block_put : (d s : List ℕ) → length s ≡ 512 → 513 ≤ length d → ended_at (paste (set d 0 1) 1 s 512) 513 ≡ put_in (block_record s) d
 block_put [] s e l = absurd (not-suc-le-zero l)
-block_put (x ∷ xs) s e l = rw (take_at s (drop 512 xs) 512 e, drop_at s (drop 512 xs) 512 e, e)
+block_put (x ∷ xs) s e l = rw (take_all 512 s (omega (arith, e)), take_at s (drop 512 xs) 512 e, drop_at s (drop 512 xs) 512 e, e)
 
 -- the part from h on is the whole of it
 pub part_of : (t : List ℕ) (h : ℕ) → take (length t - h) (drop h t) ≡ drop h t

@@ -3,7 +3,7 @@ ghost use Rattle.std.specs.Prelude.{◌≡◌, ◌+◌, ◌≤◌, length, leb};
 ghost use Rattle.tape.specs.Record.{body_size, mark_record, block_record};
 ghost use Rattle.tape.specs.Recording.{put_in, ended_at, written, mark_written, block_written, erased};
 
-use crate::{BLOCK, BLOCK_SIZE, END, MARK, MARK_SIZE};
+use crate::{BLOCK, BLOCK_SIZE, BODY, END, MARK, MARK_SIZE};
 
 // Whether n bytes from the head on lie inside a tape of this length, for any three numbers.
 pub fn has_room(head: usize, n: usize, length: usize) -> bool
@@ -36,7 +36,10 @@ fn put_block(part: &mut [u8], body: &[u8])
     ensures { part.new ≡ put_in (block_record body.now) part.old }
 {
     part[0] = BLOCK;
-    part[1..BLOCK_SIZE].copy_from_slice(body);
+    // not by `copy_from_slice`, as `put` of `basis`
+    for i in 0..BODY {
+        part[1 + i] = body[i];
+    }
     end_at(part, BLOCK_SIZE);
 }
 

@@ -1,6 +1,6 @@
 -- Six less what is outstanding, and what is outstanding is 1 or more.
 use Prim.Native.Nat.{ℕ, ◌-◌, max}
-use mathlib.Core.Path.{◌≡◌}
+use mathlib.Core.Path.{◌∙◌, ◌≡◌}
 use native.Mathlib.Omega.{arith}
 use borrow.Author.Tests.{leb-true, leb-false}
 use lib.Dec.{leb}
@@ -15,4 +15,6 @@ left k =
     (λ e. choice_by P (leb k 6) (λ f. omega (arith, leb-false k 1 e, leb-true k 6 f)) (λ f. omega (arith, leb-false k 6 f)))
 
 pub returns : goal.returns
-returns c = let k = c.args.k in (rw (c.saturating_sub.ensures, c.max.ensures) (left k), omega (arith, c.saturating_sub.ensures, c.max.ensures))
+returns c =
+    let k = c.args.k in
+    (omega (arith, c.saturating_sub.ensures, c.max.ensures) ∙ left k, omega (arith, c.saturating_sub.ensures, c.max.ensures))
